@@ -1,1 +1,4 @@
 pub mod Grammar
+pub mod Actions
+pub mod Laid
+pub mod FieldLists

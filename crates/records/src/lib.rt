@@ -1,4 +1,11 @@
 // Comma-separated records (RFC 4180) in fixed memory: reading, writing, and the numbers in their fields.
+mod action;
+mod bytes;
 mod fault;
+mod field_list;
+mod limits;
 
 pub use fault::Fault;
+pub use field_list::FieldList;
+pub use limits::MAX_BYTES;
+pub use limits::MAX_FIELDS;
