@@ -2,3 +2,4 @@ pub mod Grammar
 pub mod Actions
 pub mod Laid
 pub mod FieldLists
+pub mod Reading
