@@ -1,2 +1,5 @@
 pub mod Laid
 pub mod Machine
+pub mod UnderWay
+pub mod Steps
+pub mod Numbers

@@ -52,7 +52,7 @@ keeps-plain fresh b h = grind (arith, tells)
 keeps-quoted : (fresh : Bool) (b : ℕ) → textByte b ≡ true → eqb b 34 ≡ false → actionOf Quoted fresh b ≡ Keep Quoted
 keeps-quoted fresh b h e = grind (arith, tells)
 
-run-plain : (fs : List (List ℕ)) (v field : List ℕ) (n : ℕ) (rest : List ℕ) → every plainByte field ≡ true
+pub run-plain : (fs : List (List ℕ)) (v field : List ℕ) (n : ℕ) (rest : List ℕ) → every plainByte field ≡ true
     → run Plain fs v n (field ++ rest) ≡ run Plain fs (v ++ field) (n + length field) rest
 run-plain fs v [] n rest h = ap (λ u. run Plain fs u n rest) (sym (append-nil v)) ∙ ap (λ k. run Plain fs (v ++ []) k rest) (let e : n ≡ n + 0 = omega arith in e)
 run-plain fs v (b ∷ field) n rest h =
@@ -66,7 +66,7 @@ run-plain fs v (b ∷ field) n rest h =
 run-twice : (fs : List (List ℕ)) (v : List ℕ) (n : ℕ) (rest : List ℕ) → run Quoted fs v n (34 ∷ (34 ∷ rest)) ≡ run Quoted fs (v ++ (34 ∷ [])) (n + 1 + 1) rest
 run-twice fs v n rest = refl
 
-run-doubled : (fs : List (List ℕ)) (v field : List ℕ) (n : ℕ) (rest : List ℕ) → every textByte field ≡ true
+pub run-doubled : (fs : List (List ℕ)) (v field : List ℕ) (n : ℕ) (rest : List ℕ) → every textByte field ≡ true
     → run Quoted fs v n (doubled field ++ rest) ≡ run Quoted fs (v ++ field) (n + length (doubled field)) rest
 run-doubled fs v [] n rest h = ap (λ u. run Quoted fs u n rest) (sym (append-nil v)) ∙ ap (λ k. run Quoted fs (v ++ []) k rest) (let e : n ≡ n + 0 = omega arith in e)
 run-doubled fs v (b ∷ field) n rest h =
@@ -84,7 +84,7 @@ run-doubled fs v (b ∷ field) n rest h =
         ∙ ap (λ k. run Quoted fs (v ++ (b ∷ field)) k rest) (let e : n + 1 + length (doubled field) ≡ n + suc (length (doubled field)) = omega arith in e)))
     (cases-bool (eqb b 34))
 
-run-inQuotes : (fs : List (List ℕ)) (field : List ℕ) (n : ℕ) (rest : List ℕ) → every textByte field ≡ true
+pub run-inQuotes : (fs : List (List ℕ)) (field : List ℕ) (n : ℕ) (rest : List ℕ) → every textByte field ≡ true
     → run Plain fs [] n (inQuotes field ++ rest) ≡ run Closing fs field (n + length (inQuotes field)) rest
 run-inQuotes fs field n rest h =
     ap (λ x. run Quoted fs [] (n + 1) x) (append-assoc (doubled field) (34 ∷ []) rest)

@@ -3,3 +3,4 @@ pub mod Actions
 pub mod Laid
 pub mod FieldLists
 pub mod Reading
+pub mod Numbers

@@ -4,8 +4,11 @@ mod bytes;
 mod fault;
 mod field_list;
 mod limits;
+mod numeral;
 
 pub use fault::Fault;
 pub use field_list::FieldList;
 pub use limits::MAX_BYTES;
 pub use limits::MAX_FIELDS;
+pub use numeral::Decimal;
+pub use numeral::number;
