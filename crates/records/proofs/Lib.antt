@@ -3,3 +3,4 @@ pub mod Machine
 pub mod UnderWay
 pub mod Steps
 pub mod Numbers
+pub mod Faults
