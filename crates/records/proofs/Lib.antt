@@ -4,3 +4,4 @@ pub mod UnderWay
 pub mod Steps
 pub mod Numbers
 pub mod Faults
+pub mod Readers

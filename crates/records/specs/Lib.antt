@@ -4,3 +4,4 @@ pub mod Laid
 pub mod FieldLists
 pub mod Reading
 pub mod Numbers
+pub mod Readers

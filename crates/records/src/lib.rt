@@ -5,6 +5,7 @@ mod fault;
 mod field_list;
 mod limits;
 mod numeral;
+mod reader;
 
 pub use fault::Fault;
 pub use field_list::FieldList;
@@ -12,3 +13,6 @@ pub use limits::MAX_BYTES;
 pub use limits::MAX_FIELDS;
 pub use numeral::Decimal;
 pub use numeral::number;
+pub use reader::Event;
+pub use reader::Progress;
+pub use reader::Reader;

@@ -2,7 +2,7 @@
 ghost use Prim.Native.Nat.{_+_, _<_, _≤_};
 ghost use mathlib.Core.Path.{_≡_};
 ghost use mathlib.Core.List.{[], _∷_, _++_};
-ghost use lib.Dec.{eqb};
+ghost use lib.Dec.{leb};
 ghost use lib.ListN.{length};
 ghost use Rattle.std.specs.Finite.{nth};
 ghost use Rattle.std.specs.Holes.{between};
@@ -81,6 +81,13 @@ impl FieldList {
         ensures { λ r. ⌜ r ≡ isEmpty (current (now (self .entry))) ⌝ }
     {
         self.len == self.start(self.commas)
+    }
+
+    /// Whether there is no room for a field more.
+    pub(crate) fn is_full(&self) -> bool
+        ensures { λ r. ⌜ r ≡ leb 39 (now (self .entry) .commas) ⌝ }
+    {
+        self.commas >= MAX_COMMAS
     }
 
     /// How many fields there are.

@@ -1,0 +1,53 @@
+-- What a reader holds, and what it makes of a byte, a part of a text and the text's end.
+use Prim.Native.Nat.{ℕ, _+_, _≤_, _<_}
+use mathlib.Core.Path.{_≡_}
+use mathlib.Core.List.{List, [], _∷_, _++_}
+use mathlib.Core.Logic.{_⊎_}
+use lib.ListN.{length, drop}
+use Rattle.records.specs.FieldLists.{complete, current, fieldsOf}
+use Rattle.records.specs.Grammar.{Record, FirstFault}
+use Rattle.records.specs.Reading.{UnderWay}
+use Rattle.records.specs.declared.action.Mode.{Mode}
+use Rattle.records.specs.declared.action.Mode.the-variants.{Plain}
+use Rattle.records.specs.declared.fault.Fault.{Fault}
+use Rattle.records.specs.declared.fault.Fault.the-variants.{BadText, TooLong}
+use Rattle.records.specs.declared.reader.Reader.{Reader}
+use Rattle.records.specs.declared.reader.Status.{Status}
+use Rattle.records.specs.declared.reader.Status.the-variants.{Open, Complete, Failed}
+use Rattle.records.specs.declared.reader.Event.{Event}
+use Rattle.records.specs.declared.reader.Event.the-variants.{More, Record as Ended, Fault as Faulty}
+
+-- where a reader in a record stands
+pub record Stands (r : Reader) (m : Mode) (fields : List (List ℕ)) (field : List ℕ) (n : ℕ) : Type 0 where
+  pub status : r .status ≡ Open
+  pub mode : r .mode ≡ m
+  pub before : complete (r .fields) ≡ fields
+  pub last : current (r .fields) ≡ field
+  pub taken : r .taken ≡ n
+
+-- a byte that counts: the reader goes on so, or the record has its 1,024 bytes already
+abbrev pub Counted : Event → Reader → Reader → Mode → List (List ℕ) → List ℕ → Type 0
+Counted More e f mode fields field = (e .status ≡ Open → Stands f mode fields field (e .taken + 1)) × (e .taken < 1024)
+Counted Ended e f mode fields field = ⊥
+Counted (Faulty x) e f mode fields field = (x ≡ TooLong) × (f .status ≡ Failed TooLong) × (1024 ≤ e .taken)
+
+-- a comma: a new field is begun, or the record has its 1,024 bytes or its 40 fields already
+abbrev pub CountedField : Event → Reader → Reader → Type 0
+CountedField More e f = (e .status ≡ Open → Stands f Plain (complete (e .fields) ++ (current (e .fields) ∷ [])) [] (e .taken + 1)) × (e .taken < 1024)
+CountedField Ended e f = ⊥
+CountedField (Faulty x) e f = (x ≡ TooLong) × (f .status ≡ Failed TooLong) × ((1024 ≤ e .taken) ⊎ (39 ≤ e .fields .commas))
+
+-- the bytes of its record that a reader has taken in: between two records there are none, and a failed reader is in no record
+abbrev pub TakenAs : Status → Reader → List ℕ → Type 0
+TakenAs Open r bytes = UnderWay (r .mode) (complete (r .fields)) (current (r .fields)) (r .taken) bytes
+TakenAs Complete r bytes = bytes ≡ []
+TakenAs (Failed x) r bytes = ⊥
+
+abbrev pub Taken : Reader → List ℕ → Type 0
+Taken r bytes = TakenAs (r .status) r bytes
+
+-- what one byte does, whatever was taken in before it and whatever text comes after it
+abbrev pub Takes : Reader → ℕ → Event → Reader → Type 0
+Takes e b More f = (p : List ℕ) → Taken e p → Taken f (p ++ (b ∷ []))
+Takes e b Ended f = (f .status ≡ Complete) × ((p : List ℕ) → Taken e p → (rest : List ℕ) → Record (p ++ (b ∷ rest)) (fieldsOf (f .fields)) rest)
+Takes e b (Faulty x) f = (f .status ≡ Failed x) × ((p : List ℕ) → Taken e p → (rest : List ℕ) → FirstFault (p ++ (b ∷ rest)) (length p) x)

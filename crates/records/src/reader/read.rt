@@ -1,0 +1,1 @@
+// How a reader takes in a part of a text.
