@@ -121,21 +121,23 @@ module _ (mode : Mode) (fs : List (List ℕ)) (v : List ℕ) (n b : ℕ) (p : Li
 
   pub first-bad : actionOf mode (isEmpty v) b ≡ Refuse → (rest : List ℕ) → FirstFault (p ++ (b ∷ rest)) (length p) BadText
   first-bad e rest = record {
-      some = omega (arith, length-append p (b ∷ rest));
-      no-record = λ fields tail r. let l = line-of-record r in no-line mode fs v n b p u e (rest ++ l .0) fields (line-on rest fields (l .0) (l .1));
-      before = subst Fits (sym (before-here rest)) (fits-under-way mode fs v n p u few short);
-      here = inr (λ g. let g′ : Begins (p ++ (b ∷ [])) = subst Begins (up-to-here rest) g in no-line mode fs v n b p u e (g′ .to-come) (g′ .fields) (line-of-begins p b g′));
-    }
+    some = omega (arith, length-append p (b ∷ rest));
+    no-record = λ fields tail r. let l = line-of-record r in no-line mode fs v n b p u e (rest ++ l .0) fields (line-on rest fields (l .0) (l .1));
+    before = subst Fits (sym (before-here rest)) (fits-under-way mode fs v n p u few short);
+    here = inr (λ g. let g′ : Begins (p ++ (b ∷ [])) = subst Begins (up-to-here rest) g in no-line mode fs v n b p u e (g′ .to-come) (g′ .fields) (line-of-begins p b g′));
+  }
 
   pub first-long : (a : Action) → actionOf mode (isEmpty v) b ≡ a → TooMuch a fs n → (rest : List ℕ) → FirstFault (p ++ (b ∷ rest)) (length p) TooLong
   first-long a e too rest = record {
-      some = omega (arith, length-append p (b ∷ rest));
-      no-record = λ fields tail r. let l = line-of-record r in exceeds a e too (rest ++ l .0) fields (line-on rest fields (l .0) (l .1)) (l .2 .few) (λ _. l .2 .short);
-      before = subst Fits (sym (before-here rest)) (fits-under-way mode fs v n p u few short);
-      here = (subst Begins (sym (up-to-here rest)) (begins-next mode fs v n b p a u e (counts-too-much too)),
-        λ f. let f′ : Fits (p ++ (b ∷ [])) = subst Fits (up-to-here rest) f in
-        exceeds a e too (f′ .begins .to-come) (f′ .begins .fields) (line-of-begins p b (f′ .begins)) (f′ .few) (λ h. omega (arith, f′ .short, length-push p b, u .counted)));
-    }
+    some = omega (arith, length-append p (b ∷ rest));
+    no-record = λ fields tail r. let l = line-of-record r in exceeds a e too (rest ++ l .0) fields (line-on rest fields (l .0) (l .1)) (l .2 .few) (λ _. l .2 .short);
+    before = subst Fits (sym (before-here rest)) (fits-under-way mode fs v n p u few short);
+    here = (
+      subst Begins (sym (up-to-here rest)) (begins-next mode fs v n b p a u e (counts-too-much too)),
+      λ f. let f′ : Fits (p ++ (b ∷ [])) = subst Fits (up-to-here rest) f in
+          exceeds a e too (f′ .begins .to-come) (f′ .begins .fields) (line-of-begins p b (f′ .begins)) (f′ .few) (λ h. omega (arith, f′ .short, length-push p b, u .counted)),
+    );
+  }
 
 -- the end of the text
 
@@ -163,7 +165,7 @@ no-record-here : (mode : Mode) (fs : List (List ℕ)) (v : List ℕ) (n : ℕ) (
     → (mode ≡ Quoted) ⊎ (mode ≡ Returned) → UnderWay mode fs v n p → Record p fields rest → ⊥
 no-record-here mode fs v n p fields rest m u (ended written f h e) =
     let r : going mode fs v n ≡ done ([] ++ fields) (0 + length written) rest =
-        sym (run-under-way mode fs v n p u []) ∙ ap (run Plain [] [] 0) (append-nil p ∙ e) ∙ run-fields [] 0 rest f in
+    sym (run-under-way mode fs v n p u []) ∙ ap (run Plain [] [] 0) (append-nil p ∙ e) ∙ run-fields [] 0 rest f in
     let z : _≡_ {A = ℕ} 0 1 = cc in omega arith
 no-record-here mode fs v n p fields rest m u (unended f h s e) =
     cut-short mode fs v n fields (0 + length p) [] m (sym (run-under-way mode fs v n p u (13 ∷ (10 ∷ []))) ∙ run-fields [] 0 [] f)
@@ -171,8 +173,8 @@ no-record-here mode fs v n p fields rest m u (unended f h s e) =
 pub cut-off : (mode : Mode) (fs : List (List ℕ)) (v : List ℕ) (n : ℕ) (p : List ℕ) → (mode ≡ Quoted) ⊎ (mode ≡ Returned) → UnderWay mode fs v n p
     → length fs ≤ 39 → n ≤ 1024 → 0 < length p → FirstFault p (length p) BadText
 cut-off mode fs v n p m u few short some = record {
-    some = some;
-    no-record = λ fields rest r. no-record-here mode fs v n p fields rest m u r;
-    before = subst Fits (sym (take-all (length p) p (omega arith))) (fits-under-way mode fs v n p u few short);
-    here = inl refl;
-  }
+  some = some;
+  no-record = λ fields rest r. no-record-here mode fs v n p fields rest m u r;
+  before = subst Fits (sym (take-all (length p) p (omega arith))) (fits-under-way mode fs v n p u few short);
+  here = inl refl;
+}

@@ -70,7 +70,7 @@ getD-firstFields bytes ends (suc n) k h =
     ⊎-elim
     (λ l. getD-append-left (firstFields bytes ends n) (last ∷ []) [] k (omega (arith, count)) ∙ getD-firstFields bytes ends n k l)
     (λ l. let same : n ≡ k = omega arith in
-        getD-push (firstFields bytes ends n) last [] k (count ∙ same) ∙ ap (λ j. between (startOf ends j) (getD ends j 0) bytes) same)
+    getD-push (firstFields bytes ends n) last [] k (count ∙ same) ∙ ap (λ j. between (startOf ends j) (getD ends j 0) bytes) same)
     (cases-lt k n)
 
 -- where every field starts and ends once one more is complete
@@ -78,10 +78,10 @@ pub ordered-separate : (ends : List ℕ) (n len : ℕ) → n < length ends → O
 ordered-separate ends n len l ordered inside k h =
     ⊎-elim
     (λ below. let other : getD (set ends n len) k 0 ≡ getD ends k 0 = getD-set-other ends n k len 0 (λ same. omega arith) in
-        omega (arith, startOf-set ends n len k (omega arith), other, ordered k below))
+    omega (arith, startOf-set ends n len k (omega arith), other, ordered k below))
     (λ here. let same : n ≡ k = omega arith in
-        subst (λ j. startOf (set ends n len) j ≤ getD (set ends n len) j 0) same
-        (omega (arith, startOf-set ends n len n (omega arith), getD-set-same ends n len 0 l, inside n (omega arith))))
+    subst (λ j. startOf (set ends n len) j ≤ getD (set ends n len) j 0) same
+    (omega (arith, startOf-set ends n len n (omega arith), getD-set-same ends n len 0 l, inside n (omega arith))))
     (cases-lt k n)
 
 pub inside-separate : (ends : List ℕ) (n len : ℕ) → n < length ends → Inside ends n len → Inside (set ends n len) (n + 1) len
@@ -89,7 +89,7 @@ inside-separate ends n len l inside k h =
     ⊎-elim
     (λ below. omega (arith, startOf-set ends n len k (omega arith), inside k (omega arith)))
     (λ here. let same : suc n ≡ k = omega arith in
-        subst (λ j. startOf (set ends n len) j ≤ len) same (omega (arith, getD-set-same ends n len 0 l)))
+    subst (λ j. startOf (set ends n len) j ≤ len) same (omega (arith, getD-set-same ends n len 0 l)))
     (cases-lt k (n + 1))
 
 -- the field that starts where one was completed is empty
@@ -109,7 +109,7 @@ isEmpty-between bytes i j h l =
     ⊎-elim
     (λ lt. ne-eqb j i (λ z. omega arith) ∙ sym (ne-eqb (j - i) 0 (λ z. omega arith)) ∙ empty-length (between i j bytes) (j - i) long)
     (λ le. let same : i ≡ j = omega arith in let z : j - i ≡ 0 = omega arith in
-        eq-eqb j i (sym same) ∙ sym (eq-eqb (j - i) 0 z) ∙ empty-length (between i j bytes) (j - i) long)
+    eq-eqb j i (sym same) ∙ sym (eq-eqb (j - i) 0 z) ∙ empty-length (between i j bytes) (j - i) long)
     (cases-lt i j)
 
 pub nth-complete : (bytes ends : List ℕ) (n k : ℕ) (last : List ℕ) → k < n → nth (firstFields bytes ends n ++ (last ∷ [])) k ≡ Some (between (startOf ends k) (getD ends k 0) bytes)

@@ -74,14 +74,14 @@ run-doubled fs v (b ∷ field) n rest h =
     let Goal : List ℕ → Type 0 = λ d. run Quoted fs v n (d ++ rest) ≡ run Quoted fs (v ++ (b ∷ field)) (n + length d) rest in
     ⊎-elim
     (λ quote. subst Goal (sym (cond-true (eqb b 34) (34 ∷ (34 ∷ doubled field)) (b ∷ doubled field) quote))
-        (run-doubled fs (v ++ (34 ∷ [])) field (n + 1 + 1) rest (p .1)
-        ∙ ap (λ u. run Quoted fs u (n + 1 + 1 + length (doubled field)) rest) (append-assoc v (34 ∷ []) field ∙ ap (λ x. v ++ (x ∷ field)) (sym (eqb-true b 34 quote)))
-        ∙ ap (λ k. run Quoted fs (v ++ (b ∷ field)) k rest) (let e : n + 1 + 1 + length (doubled field) ≡ n + suc (suc (length (doubled field))) = omega arith in e)))
+    (run-doubled fs (v ++ (34 ∷ [])) field (n + 1 + 1) rest (p .1)
+    ∙ ap (λ u. run Quoted fs u (n + 1 + 1 + length (doubled field)) rest) (append-assoc v (34 ∷ []) field ∙ ap (λ x. v ++ (x ∷ field)) (sym (eqb-true b 34 quote)))
+    ∙ ap (λ k. run Quoted fs (v ++ (b ∷ field)) k rest) (let e : n + 1 + 1 + length (doubled field) ≡ n + suc (suc (length (doubled field))) = omega arith in e)))
     (λ other. subst Goal (sym (cond-false (eqb b 34) (34 ∷ (34 ∷ doubled field)) (b ∷ doubled field) other))
-        (run-step Quoted fs v n b (doubled field ++ rest) (Keep Quoted) (keeps-quoted (isEmpty v) b (p .0) other)
-        ∙ run-doubled fs (v ++ (b ∷ [])) field (n + 1) rest (p .1)
-        ∙ ap (λ u. run Quoted fs u (n + 1 + length (doubled field)) rest) (append-assoc v (b ∷ []) field)
-        ∙ ap (λ k. run Quoted fs (v ++ (b ∷ field)) k rest) (let e : n + 1 + length (doubled field) ≡ n + suc (length (doubled field)) = omega arith in e)))
+    (run-step Quoted fs v n b (doubled field ++ rest) (Keep Quoted) (keeps-quoted (isEmpty v) b (p .0) other)
+    ∙ run-doubled fs (v ++ (b ∷ [])) field (n + 1) rest (p .1)
+    ∙ ap (λ u. run Quoted fs u (n + 1 + length (doubled field)) rest) (append-assoc v (b ∷ []) field)
+    ∙ ap (λ k. run Quoted fs (v ++ (b ∷ field)) k rest) (let e : n + 1 + length (doubled field) ≡ n + suc (length (doubled field)) = omega arith in e)))
     (cases-bool (eqb b 34))
 
 pub run-inQuotes : (fs : List (List ℕ)) (field : List ℕ) (n : ℕ) (rest : List ℕ) → every textByte field ≡ true
@@ -90,7 +90,7 @@ run-inQuotes fs field n rest h =
     ap (λ x. run Quoted fs [] (n + 1) x) (append-assoc (doubled field) (34 ∷ []) rest)
     ∙ run-doubled fs [] field (n + 1) (34 ∷ rest) h
     ∙ ap (λ k. run Closing fs field k rest)
-      (let e : n + 1 + length (doubled field) + 1 ≡ n + suc (length (doubled field ++ (34 ∷ []))) = omega (arith, length-push (doubled field) 34) in e)
+    (let e : n + 1 + length (doubled field) + 1 ≡ n + suc (length (doubled field ++ (34 ∷ []))) = omega (arith, length-push (doubled field) 34) in e)
 
 -- where a field is over, a comma separates and a CR returns
 pub record Over (mode : Mode) : Type 0 where
@@ -129,7 +129,7 @@ run-fields fs n rest (more {field} {written} {fields} {rest = others} f more-fie
     ∙ run-fields (fs ++ (field ∷ [])) (n + length written + 1) rest more-fields
     ∙ ap (λ x. done x (n + length written + 1 + length others) rest) (append-assoc fs (field ∷ []) fields)
     ∙ ap (λ k. done (fs ++ (field ∷ fields)) k rest)
-      (let e : n + length written + 1 + length others ≡ n + length (written ++ (44 ∷ others)) = omega (arith, length-append written (44 ∷ others)) in e)
+    (let e : n + length written + 1 + length others ≡ n + length (written ++ (44 ∷ others)) = omega (arith, length-append written (44 ∷ others)) in e)
 
 -- a run that comes to a record's end counts up: bytes and fields that were read are the record's
 pub record Grown (fs : List (List ℕ)) (n : ℕ) (fields : List (List ℕ)) (total : ℕ) : Type 0 where

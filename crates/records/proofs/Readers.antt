@@ -5,12 +5,14 @@ use mathlib.Core.Path.{_≡_, refl, sym, ap, subst, _∙_}
 use mathlib.Core.Bool.{Bool, true}
 use mathlib.Core.List.{List, [], _∷_, _++_}
 use mathlib.Core.Logic.{_⊎_, ⊎-elim, inl, inr}
-use lib.ListN.{length}
+use lib.ListN.{length, take, drop, getD}
+use Rattle.std.proofs.shelf.Lists.{append-assoc, append-nil, length-append, length-take-le, take-more, drop-more, take-append-drop, nil-from-length}
+use Rattle.std.specs.declared.option.Option.the-variants.{Some, None}
 use Rattle.records.specs.Actions.{actionOf}
 use Rattle.records.specs.FieldLists.{isEmpty, complete, current, fieldsOf}
 use Rattle.records.specs.Grammar.{Record, FirstFault}
-use Rattle.records.specs.Reading.{UnderWay}
-use Rattle.records.specs.Readers.{Stands, Counted, CountedField, TakenAs, Taken, Takes}
+use Rattle.records.specs.Reading.{UnderWay, ofLineEnd, start}
+use Rattle.records.specs.Readers.{Stands, Counted, CountedField, TakenAs, Taken, Takes, Readied, Reads, onward, ended, broken, over, Finishes, clear, finished, too-soon, failed-before}
 use Rattle.records.specs.declared.action.Mode.{Mode}
 use Rattle.records.specs.declared.action.Mode.the-variants.{Plain, Quoted, Closing, Returned}
 use Rattle.records.specs.declared.action.Action.{Action}
@@ -21,11 +23,12 @@ use Rattle.records.specs.declared.field_list.FieldList.{FieldList}
 use Rattle.records.specs.declared.reader.Reader.{Reader}
 use Rattle.records.specs.declared.reader.Status.{Status}
 use Rattle.records.specs.declared.reader.Status.the-variants.{Open, Complete, Failed}
+use Rattle.records.specs.declared.reader.Progress.{Progress}
 use Rattle.records.specs.declared.reader.Event.{Event}
 use Rattle.records.specs.declared.reader.Event.the-variants.{More, Record as Ended, Fault as Faulty}
 use Rattle.records.proofs.Laid.{length-firstFields}
 use Rattle.records.proofs.Steps.{goes-keep, goes-open, goes-close, goes-separate, goes-return, ends-record}
-use Rattle.records.proofs.Faults.{counts, TooMuch, of-bytes, of-fields, first-bad, first-long}
+use Rattle.records.proofs.Faults.{counts, TooMuch, of-bytes, of-fields, first-bad, first-long, ends-text, cut-off}
 
 -- the record under way in a reader
 abbrev pub Holds : Reader → List ℕ → Type 0
@@ -50,22 +53,25 @@ stands-taken f m fs v n p s u =
 
 module _ (e f : Reader) (b : ℕ) (open′ : e .status ≡ Open) (a : Action) (acts : actionOf (e .mode) (isEmpty (current (e .fields))) b ≡ a) where
   too-long : (x : Fault) → x ≡ TooLong → f .status ≡ Failed TooLong → TooMuch a (complete (e .fields)) (e .taken) → Takes e b (Faulty x) f
-  too-long x is s too =
-      (s ∙ ap Failed (sym is),
-       λ p t rest. subst (FirstFault (p ++ (b ∷ rest)) (length p)) (sym is)
-         (first-long (e .mode) (complete (e .fields)) (current (e .fields)) (e .taken) b p (open-taken e p open′ t) (few-complete (e .fields)) (e .short) a acts too rest))
+  too-long x is s too = (
+    s ∙ ap Failed (sym is),
+    λ p t rest. subst (FirstFault (p ++ (b ∷ rest)) (length p)) (sym is)
+        (first-long (e .mode) (complete (e .fields)) (current (e .fields)) (e .taken) b p (open-taken e p open′ t) (few-complete (e .fields)) (e .short) a acts too rest),
+  )
 
   pub takes-counted : (m : Mode) (fs : List (List ℕ)) (v : List ℕ) → counts a ≡ true
       → ((p : List ℕ) → Holds e p → UnderWay m fs v (e .taken + 1) (p ++ (b ∷ [])))
       → (r : Event) → Counted r e f m fs v → Takes e b r f
-  takes-counted m fs v c go More k = λ p t. stands-taken f m fs v (e .taken + 1) (p ++ (b ∷ [])) (k .0 open′) (go p (open-taken e p open′ t))
+  takes-counted m fs v c go More k = (k .0 open′ .status, λ p t. stands-taken f m fs v (e .taken + 1) (p ++ (b ∷ [])) (k .0 open′) (go p (open-taken e p open′ t)))
   takes-counted m fs v c go Ended k = absurd k
   takes-counted m fs v c go (Faulty x) k = too-long x (k .0) (k .1) (of-bytes c (k .2))
 
   pub takes-separated : a ≡ Separate → (r : Event) → CountedField r e f → Takes e b r f
-  takes-separated sep More k =
-      λ p t. stands-taken f Plain (complete (e .fields) ++ (current (e .fields) ∷ [])) [] (e .taken + 1) (p ++ (b ∷ [])) (k .0 open′)
-        (goes-separate (e .mode) (complete (e .fields)) (current (e .fields)) (e .taken) b p (acts ∙ sep) (open-taken e p open′ t))
+  takes-separated sep More k = (
+    k .0 open′ .status,
+    λ p t. stands-taken f Plain (complete (e .fields) ++ (current (e .fields) ∷ [])) [] (e .taken + 1) (p ++ (b ∷ [])) (k .0 open′)
+        (goes-separate (e .mode) (complete (e .fields)) (current (e .fields)) (e .taken) b p (acts ∙ sep) (open-taken e p open′ t)),
+  )
   takes-separated sep Ended k = absurd k
   takes-separated sep (Faulty x) k =
       too-long x (k .0) (k .1)
@@ -79,3 +85,90 @@ module _ (e f : Reader) (b : ℕ) (open′ : e .status ≡ Open) (a : Action) (a
 -- what the byte does, from what the calls answered
 pub acts-as : (m : Mode) (v : List ℕ) (b : ℕ) {fresh : Bool} {r a : Action} → fresh ≡ isEmpty v → r ≡ actionOf m fresh b → r ≡ a → actionOf m (isEmpty v) b ≡ a
 acts-as m v b fresh-is r-is is = sym (ap (λ x. actionOf m x b) fresh-is) ∙ sym r-is ∙ is
+
+-- before the first byte of a record
+pub under-way-start : (l : FieldList) → complete l ≡ [] → current l ≡ [] → UnderWay Plain (complete l) (current l) 0 []
+under-way-start l none empty =
+    subst (λ fs. UnderWay Plain fs (current l) 0 []) (sym none)
+    (subst (λ v. UnderWay Plain [] v 0 []) (sym empty)
+    (record { before = []; part = []; separated = start; partly = (refl, refl); joined = refl; counted = refl }))
+
+-- a reader in a record has not failed
+never-failed : (g : Reader) (x : Fault) → g .status ≡ Open → g .status ≡ Failed x → ⊥
+never-failed g x s failed = let z : _≡_ {A = ℕ} 0 1 = cc in omega arith
+
+-- between two records nothing is taken in
+pub taken-complete : (e : Reader) (p : List ℕ) → e .status ≡ Complete → Taken e p → p ≡ []
+taken-complete e p s t = subst (λ x. TakenAs x e p) s t
+
+-- a part of a text, byte after byte
+module _ (e : Reader) (part : List ℕ) where
+  -- the first i bytes are taken in
+  abbrev pub Along : Reader → ℕ → Type 0
+  Along f i = (p : List ℕ) → Taken e p → Taken f (p ++ take i part)
+
+  pub along-more : (f g : Reader) (i : ℕ) → i < length part → Along f i → Takes f (getD part i 0) More g → Along g (i + 1)
+  along-more f g i within along takes p t =
+      subst (Taken g) (append-assoc p (take i part) (getD part i 0 ∷ []) ∙ ap (λ x. p ++ x) (sym (take-more part i 0 within)))
+      (takes .1 (p ++ take i part) (along p t))
+
+  -- what comes after the first i bytes
+  after : (p : List ℕ) (i : ℕ) (rest : List ℕ) → i < length part → (p ++ take i part) ++ (getD part i 0 ∷ (drop (i + 1) part ++ rest)) ≡ p ++ (part ++ rest)
+  after p i rest within =
+      append-assoc p (take i part) (getD part i 0 ∷ (drop (i + 1) part ++ rest))
+      ∙ ap (λ x. p ++ x) (ap (λ x. take i part ++ (x ++ rest)) (sym (drop-more part i 0 within)) ∙ sym (append-assoc (take i part) (drop i part) rest) ∙ ap (λ x. x ++ rest) (take-append-drop i part))
+
+  pub along-ended : (f g : Reader) (i : ℕ) → i < length part → Along f i → Takes f (getD part i 0) Ended g → Reads e part (record { used = i + 1; event = Ended }) g
+  along-ended f g i within along takes =
+      ended refl (omega arith) (omega arith) (takes .0)
+      (λ p t rest. subst (λ x. Record x (fieldsOf (g .fields)) (drop (i + 1) part ++ rest)) (after p i rest within) (takes .1 (p ++ take i part) (along p t) (drop (i + 1) part ++ rest)))
+
+  pub along-broken : (f g : Reader) (i : ℕ) (x : Fault) → i < length part → Along f i → Takes f (getD part i 0) (Faulty x) g → Reads e part (record { used = i; event = Faulty x }) g
+  along-broken f g i x within along takes =
+      broken x refl within (takes .0)
+      (λ p t rest. subst (λ n. FirstFault (p ++ (part ++ rest)) n x) (length-append p (take i part) ∙ ap (λ n. length p + n) (length-take-le i part (omega arith)))
+      (subst (λ y. FirstFault y (length (p ++ take i part)) x) (after p i rest within) (takes .1 (p ++ take i part) (along p t) (drop (i + 1) part ++ rest))))
+
+-- a reader that was made ready first
+
+pub reads-ready : (e g f : Reader) (part : List ℕ) (r : Progress) → Readied e None g → Reads g part r f → Reads e part r f
+reads-ready e g f part r (s, t) (onward v u o h) = onward v u o (λ p k. h p (t p k))
+reads-ready e g f part r (s, t) (ended v z u o h) = ended v z u o (λ p k. h p (t p k))
+reads-ready e g f part r (s, t) (broken x v u o h) = broken x v u o (λ p k. h p (t p k))
+reads-ready e g f part r (s, t) (over x failed v u o) = absurd (never-failed g x s failed)
+
+pub finishes-ready : (e g f : Reader) (r : Event) → Readied e None g → Finishes g r f → Finishes e r f
+finishes-ready e g f r (s, t) (clear v o h) = clear v o (λ p k. h p (t p k))
+finishes-ready e g f r (s, t) (finished v o h) = finished v o (λ p k. h p (t p k))
+finishes-ready e g f r (s, t) (too-soon x v o h) = too-soon x v o (λ p k. h p (t p k))
+finishes-ready e g f r (s, t) (failed-before x failed v o) = absurd (never-failed g x s failed)
+
+-- the end of the text
+
+level-over : (m : Mode) → (m ≡ Plain) ⊎ (m ≡ Closing) → ofLineEnd m ≡ 0
+level-over m (inl e) = ap ofLineEnd e
+level-over m (inr e) = ap ofLineEnd e
+
+pub finish-clear : (e : Reader) → e .status ≡ Open → (e .mode ≡ Plain) ⊎ (e .mode ≡ Closing) → e .taken ≡ 0 → Finishes e More e
+finish-clear e s m z =
+    clear refl s (λ p t.
+    let u = open-taken e p s t in
+    let none : p ≡ [] = nil-from-length p (u .counted ∙ (let k : e .taken + ofLineEnd (e .mode) ≡ 0 = omega (arith, level-over (e .mode) m) in k)) in
+    (none, subst (Taken e) none t))
+
+pub finish-record : (e f : Reader) → e .status ≡ Open → (e .mode ≡ Plain) ⊎ (e .mode ≡ Closing) → 0 < e .taken → f .status ≡ Complete → f .fields ≡ e .fields → Finishes e Ended f
+finish-record e f s m some done same =
+    finished refl done (λ p t. subst (λ l. Record p (fieldsOf l) []) (sym same)
+    (ends-text (e .mode) (complete (e .fields)) (current (e .fields)) (e .taken) p m (open-taken e p s t) (few-complete (e .fields)) (e .short) some))
+
+cut-some : (m : Mode) (fs : List (List ℕ)) (v : List ℕ) (n : ℕ) (p : List ℕ) → (m ≡ Quoted) ⊎ (m ≡ Returned) → UnderWay m fs v n p → 0 < length p
+cut-some Quoted fs v n p m u = omega (arith, ap length (u .joined), length-append (u .before) (u .part), ap length (u .partly .1))
+cut-some Returned fs v n p m u = omega (arith, u .counted)
+cut-some Plain fs v n p m u = absurd (grind arith)
+cut-some Closing fs v n p m u = absurd (grind arith)
+
+pub finish-cut : (e f : Reader) (r : Event) → e .status ≡ Open → (e .mode ≡ Quoted) ⊎ (e .mode ≡ Returned) → r ≡ Faulty BadText → f .status ≡ Failed BadText → Finishes e r f
+finish-cut e f r s m is failed =
+    too-soon BadText is failed (λ p t.
+    let u = open-taken e p s t in
+    cut-off (e .mode) (complete (e .fields)) (current (e .fields)) (e .taken) p m u (few-complete (e .fields)) (e .short) (cut-some (e .mode) (complete (e .fields)) (current (e .fields)) (e .taken) p m u))

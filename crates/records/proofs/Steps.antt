@@ -94,10 +94,13 @@ empty (b ∷ v) e = absurd (grind (arith, tells))
 onward : (mode mode′ : Mode) (fs : List (List ℕ)) (v v′ : List ℕ) (n n′ b : ℕ) (p : List ℕ) (u : UnderWay mode fs v n p)
     → Part mode′ v′ (u .part ++ (b ∷ [])) → n + ofLineEnd mode + 1 ≡ n′ + ofLineEnd mode′ → UnderWay mode′ fs v′ n′ (p ++ (b ∷ []))
 onward mode mode′ fs v v′ n n′ b p u part′ c = record {
-    before = u .before; part = u .part ++ (b ∷ []); separated = u .separated; partly = part′;
-    joined = ap (λ x. x ++ (b ∷ [])) (u .joined) ∙ append-assoc (u .before) (u .part) (b ∷ []);
-    counted = omega (arith, u .counted, length-push p b, c);
-  }
+  before = u .before;
+  part = u .part ++ (b ∷ []);
+  separated = u .separated;
+  partly = part′;
+  joined = ap (λ x. x ++ (b ∷ [])) (u .joined) ∙ append-assoc (u .before) (u .part) (b ∷ []);
+  counted = omega (arith, u .counted, length-push p b, c);
+}
 
 part-keep : (mode mode′ : Mode) (v part : List ℕ) (b : ℕ) → actionOf mode (isEmpty v) b ≡ Keep mode′ → Part mode v part → Part mode′ (v ++ (b ∷ [])) (part ++ (b ∷ []))
 part-keep Plain mode′ v part b e (h, p) =
@@ -106,15 +109,17 @@ part-keep Plain mode′ v part b e (h, p) =
 part-keep Quoted mode′ v part b e (h, p) =
     let k = kept-quoted (isEmpty v) b mode′ e in
     let single : doubled (b ∷ []) ≡ b ∷ [] = cond-false (eqb b 34) (34 ∷ (34 ∷ [])) (b ∷ []) (k .2) in
-    subst (λ m. Part m (v ++ (b ∷ [])) (part ++ (b ∷ []))) (sym (k .0))
-    (every-push textByte v b h (k .1),
-     ap (λ x. x ++ (b ∷ [])) p ∙ ap (λ x. 34 ∷ x) (ap (λ x. doubled v ++ x) (sym single) ∙ sym (doubled-append v (b ∷ []))))
+    subst (λ m. Part m (v ++ (b ∷ [])) (part ++ (b ∷ []))) (sym (k .0)) (
+      every-push textByte v b h (k .1),
+      ap (λ x. x ++ (b ∷ [])) p ∙ ap (λ x. 34 ∷ x) (ap (λ x. doubled v ++ x) (sym single) ∙ sym (doubled-append v (b ∷ []))),
+    )
 part-keep Closing mode′ v part b e (h, p) =
     let k = kept-closing (isEmpty v) b mode′ e in
     subst (λ m. Part m (v ++ (b ∷ [])) (part ++ (b ∷ []))) (sym (k .0))
-    (subst (λ x. Part Quoted (v ++ (x ∷ [])) (part ++ (x ∷ []))) (sym (k .1))
-      (every-push textByte v 34 h refl,
-       ap (λ x. x ++ (34 ∷ [])) p ∙ ap (λ x. 34 ∷ x) (append-assoc (doubled v) (34 ∷ []) (34 ∷ []) ∙ sym (doubled-append v (34 ∷ [])))))
+    (subst (λ x. Part Quoted (v ++ (x ∷ [])) (part ++ (x ∷ []))) (sym (k .1)) (
+      every-push textByte v 34 h refl,
+      ap (λ x. x ++ (34 ∷ [])) p ∙ ap (λ x. 34 ∷ x) (append-assoc (doubled v) (34 ∷ []) (34 ∷ []) ∙ sym (doubled-append v (34 ∷ []))),
+    ))
 part-keep Returned mode′ v part b e p = absurd (kept-returned (isEmpty v) b mode′ e)
 
 level-keep : (mode mode′ : Mode) (fresh : Bool) (b : ℕ) → actionOf mode fresh b ≡ Keep mode′ → (ofLineEnd mode ≡ 0) × (ofLineEnd mode′ ≡ 0)
@@ -161,9 +166,12 @@ pub goes-separate : (mode : Mode) (fs : List (List ℕ)) (v : List ℕ) (n b : �
 goes-separate mode fs v n b p e u =
     let o = over-field mode (isEmpty v) b v (u .part) Separate e (inl refl) (u .partly) in
     let bytes : p ++ (b ∷ []) ≡ u .before ++ (u .part ++ (44 ∷ [])) =
-        ap (λ x. x ++ (b ∷ [])) (u .joined) ∙ append-assoc (u .before) (u .part) (b ∷ []) ∙ ap (λ x. u .before ++ (u .part ++ (x ∷ []))) (separated-by mode (isEmpty v) b e) in
+    ap (λ x. x ++ (b ∷ [])) (u .joined) ∙ append-assoc (u .before) (u .part) (b ∷ []) ∙ ap (λ x. u .before ++ (u .part ++ (x ∷ []))) (separated-by mode (isEmpty v) b e) in
     record {
-      before = u .before ++ (u .part ++ (44 ∷ [])); part = []; separated = next (u .separated) (o .0); partly = (refl, refl);
+      before = u .before ++ (u .part ++ (44 ∷ []));
+      part = [];
+      separated = next (u .separated) (o .0);
+      partly = (refl, refl);
       joined = bytes ∙ sym (append-nil (u .before ++ (u .part ++ (44 ∷ []))));
       counted = omega (arith, u .counted, length-push p b, o .1);
     }

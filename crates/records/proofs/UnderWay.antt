@@ -29,7 +29,7 @@ run-separated (next {fields} {before} {field} {written} s f) rest =
     ∙ run-separated s (written ++ (44 ∷ rest))
     ∙ run-comma fields (length before) rest f
     ∙ ap (λ k. run Plain (fields ++ (field ∷ [])) [] k rest)
-      (let e : length before + length written + 1 ≡ length (before ++ (written ++ (44 ∷ []))) = omega (arith, length-append before (written ++ (44 ∷ [])), length-push written 44) in e)
+    (let e : length before + length written + 1 ≡ length (before ++ (written ++ (44 ∷ []))) = omega (arith, length-append before (written ++ (44 ∷ [])), length-push written 44) in e)
 
 run-part : (mode : Mode) (fs : List (List ℕ)) (v part : List ℕ) (n k : ℕ) (rest : List ℕ) → Part mode v part → n + length part ≡ k + ofLineEnd mode
     → run Plain fs [] n (part ++ rest) ≡ run mode fs v k rest
@@ -54,7 +54,7 @@ run-under-way mode fs v n p u rest =
     ∙ ap (run Plain [] [] 0) (append-assoc (u .before) (u .part) rest)
     ∙ run-separated (u .separated) (u .part ++ rest)
     ∙ run-part mode fs v (u .part) (length (u .before)) n rest (u .partly)
-      (omega (arith, u .counted, ap length (u .joined), length-append (u .before) (u .part)))
+    (omega (arith, u .counted, ap length (u .joined), length-append (u .before) (u .part)))
 
 -- how it may go on
 
@@ -64,7 +64,7 @@ fields-joined {fields = others} {written = w} (next {fields} {before} {field} {w
     let longer : Fields (fields ++ (field ∷ others)) (before ++ (written ++ (44 ∷ w))) = fields-joined s (more f g) in
     let names : (fields ++ (field ∷ [])) ++ others ≡ fields ++ (field ∷ others) = append-assoc fields (field ∷ []) others in
     let bytes : (before ++ (written ++ (44 ∷ []))) ++ w ≡ before ++ (written ++ (44 ∷ w)) =
-        append-assoc before (written ++ (44 ∷ [])) w ∙ ap (λ x. before ++ x) (append-assoc written (44 ∷ []) w) in
+    append-assoc before (written ++ (44 ∷ [])) w ∙ ap (λ x. before ++ x) (append-assoc written (44 ∷ []) w) in
     subst (λ x. Fields x ((before ++ (written ++ (44 ∷ []))) ++ w)) (sym names) (subst (λ y. Fields (fields ++ (field ∷ others)) y) (sym bytes) longer)
 
 pub last-field : {fs : List (List ℕ)} {before v written : List ℕ} → Separated fs before → Field v written → Fields (fs ++ (v ∷ [])) (before ++ written)
@@ -72,24 +72,51 @@ last-field s f = fields-joined s (one f)
 
 pub begins-under-way : (mode : Mode) (fs : List (List ℕ)) (v : List ℕ) (n : ℕ) (p : List ℕ) → UnderWay mode fs v n p
     → (b : Begins p) × (b .fields ≡ fs ++ (v ∷ [])) × (min (length p) (length (b .written)) ≤ n)
-begins-under-way Plain fs v n p u =
-    (record { fields = fs ++ (v ∷ []); written = p; to-come = 13 ∷ (10 ∷ []);
-        spelled = subst (Fields (fs ++ (v ∷ []))) (sym (u .joined ∙ ap (λ x. u .before ++ x) (u .partly .1))) (last-field (u .separated) (plain (u .partly .0)));
-        joined = refl }, refl, omega (arith, u .counted))
-begins-under-way Quoted fs v n p u =
-    (record { fields = fs ++ (v ∷ []); written = p ++ (34 ∷ []); to-come = 34 ∷ (13 ∷ (10 ∷ []));
-        spelled = subst (Fields (fs ++ (v ∷ [])))
-          (ap (λ x. u .before ++ x) (ap (λ x. x ++ (34 ∷ [])) (sym (u .partly .1))) ∙ sym (append-assoc (u .before) (u .part) (34 ∷ [])) ∙ ap (λ x. x ++ (34 ∷ [])) (sym (u .joined)))
-          (last-field (u .separated) (quoted (u .partly .0)));
-        joined = sym (append-assoc p (34 ∷ []) (13 ∷ (10 ∷ []))) }, refl, omega (arith, u .counted))
-begins-under-way Closing fs v n p u =
-    (record { fields = fs ++ (v ∷ []); written = p; to-come = 13 ∷ (10 ∷ []);
-        spelled = subst (Fields (fs ++ (v ∷ []))) (sym (u .joined ∙ ap (λ x. u .before ++ x) (u .partly .1))) (last-field (u .separated) (quoted (u .partly .0)));
-        joined = refl }, refl, omega (arith, u .counted))
+begins-under-way Plain fs v n p u = (
+  record {
+    fields = fs ++ (v ∷ []);
+    written = p;
+    to-come = 13 ∷ (10 ∷ []);
+    spelled = subst (Fields (fs ++ (v ∷ []))) (sym (u .joined ∙ ap (λ x. u .before ++ x) (u .partly .1))) (last-field (u .separated) (plain (u .partly .0)));
+    joined = refl;
+  },
+  refl,
+  omega (arith, u .counted),
+)
+begins-under-way Quoted fs v n p u = (
+  record {
+    fields = fs ++ (v ∷ []);
+    written = p ++ (34 ∷ []);
+    to-come = 34 ∷ (13 ∷ (10 ∷ []));
+    spelled = subst (Fields (fs ++ (v ∷ [])))
+        (ap (λ x. u .before ++ x) (ap (λ x. x ++ (34 ∷ [])) (sym (u .partly .1))) ∙ sym (append-assoc (u .before) (u .part) (34 ∷ [])) ∙ ap (λ x. x ++ (34 ∷ [])) (sym (u .joined)))
+        (last-field (u .separated) (quoted (u .partly .0)));
+    joined = sym (append-assoc p (34 ∷ []) (13 ∷ (10 ∷ [])));
+  },
+  refl,
+  omega (arith, u .counted),
+)
+begins-under-way Closing fs v n p u = (
+  record {
+    fields = fs ++ (v ∷ []);
+    written = p;
+    to-come = 13 ∷ (10 ∷ []);
+    spelled = subst (Fields (fs ++ (v ∷ []))) (sym (u .joined ∙ ap (λ x. u .before ++ x) (u .partly .1))) (last-field (u .separated) (quoted (u .partly .0)));
+    joined = refl;
+  },
+  refl,
+  omega (arith, u .counted),
+)
 begins-under-way Returned fs v n p u =
     let w = u .partly .0 in
-    let bytes : p ≡ (u .before ++ w) ++ (13 ∷ []) = u .joined ∙ ap (λ x. u .before ++ x) (u .partly .2) ∙ sym (append-assoc (u .before) w (13 ∷ [])) in
-    (record { fields = fs ++ (v ∷ []); written = u .before ++ w; to-come = 10 ∷ [];
+    let bytes : p ≡ (u .before ++ w) ++ (13 ∷ []) = u .joined ∙ ap (λ x. u .before ++ x) (u .partly .2) ∙ sym (append-assoc (u .before) w (13 ∷ [])) in (
+      record {
+        fields = fs ++ (v ∷ []);
+        written = u .before ++ w;
+        to-come = 10 ∷ [];
         spelled = last-field (u .separated) (u .partly .1);
-        joined = ap (λ x. x ++ (10 ∷ [])) bytes ∙ append-assoc (u .before ++ w) (13 ∷ []) (10 ∷ []) }, refl,
-     omega (arith, u .counted, ap length bytes, length-push (u .before ++ w) 13))
+        joined = ap (λ x. x ++ (10 ∷ [])) bytes ∙ append-assoc (u .before ++ w) (13 ∷ []) (10 ∷ []);
+      },
+      refl,
+      omega (arith, u .counted, ap length bytes, length-push (u .before ++ w) 13),
+    )

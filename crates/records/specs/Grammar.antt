@@ -76,3 +76,11 @@ pub record FirstFault (text : List ℕ) (place : ℕ) (fault : Fault) : Type 0 w
   pub no-record : (fields : List (List ℕ)) (rest : List ℕ) → Record text fields rest → ⊥
   pub before : Fits (take place text)
   pub here : Breaks text place fault
+
+-- a text begins with at most one record
+abbrev pub OneRecord : Type 0
+OneRecord = (text : List ℕ) (fields fields′ : List (List ℕ)) (rest rest′ : List ℕ) → Record text fields rest → Record text fields′ rest′ → (fields ≡ fields′) × (rest ≡ rest′)
+
+-- a text has at most one first fault
+abbrev pub OneFault : Type 0
+OneFault = (text : List ℕ) (place place′ : ℕ) (fault fault′ : Fault) → FirstFault text place fault → FirstFault text place′ fault′ → (place ≡ place′) × (fault ≡ fault′)

@@ -4,6 +4,8 @@ use mathlib.Core.Path.{_≡_}
 use mathlib.Core.List.{List, [], _∷_, _++_}
 use mathlib.Core.Logic.{_⊎_}
 use lib.ListN.{length, drop}
+use Rattle.std.specs.declared.option.Option.{Option}
+use Rattle.std.specs.declared.option.Option.the-variants.{Some, None}
 use Rattle.records.specs.FieldLists.{complete, current, fieldsOf}
 use Rattle.records.specs.Grammar.{Record, FirstFault}
 use Rattle.records.specs.Reading.{UnderWay}
@@ -14,6 +16,7 @@ use Rattle.records.specs.declared.fault.Fault.the-variants.{BadText, TooLong}
 use Rattle.records.specs.declared.reader.Reader.{Reader}
 use Rattle.records.specs.declared.reader.Status.{Status}
 use Rattle.records.specs.declared.reader.Status.the-variants.{Open, Complete, Failed}
+use Rattle.records.specs.declared.reader.Progress.{Progress}
 use Rattle.records.specs.declared.reader.Event.{Event}
 use Rattle.records.specs.declared.reader.Event.the-variants.{More, Record as Ended, Fault as Faulty}
 
@@ -48,6 +51,35 @@ Taken r bytes = TakenAs (r .status) r bytes
 
 -- what one byte does, whatever was taken in before it and whatever text comes after it
 abbrev pub Takes : Reader → ℕ → Event → Reader → Type 0
-Takes e b More f = (p : List ℕ) → Taken e p → Taken f (p ++ (b ∷ []))
+Takes e b More f = (f .status ≡ Open) × ((p : List ℕ) → Taken e p → Taken f (p ++ (b ∷ [])))
 Takes e b Ended f = (f .status ≡ Complete) × ((p : List ℕ) → Taken e p → (rest : List ℕ) → Record (p ++ (b ∷ rest)) (fieldsOf (f .fields)) rest)
 Takes e b (Faulty x) f = (f .status ≡ Failed x) × ((p : List ℕ) → Taken e p → (rest : List ℕ) → FirstFault (p ++ (b ∷ rest)) (length p) x)
+
+-- made ready for the next byte: what was taken in stays, and a failed reader stays as it is
+abbrev pub Readied : Reader → Option Fault → Reader → Type 0
+Readied e None f = (f .status ≡ Open) × ((p : List ℕ) → Taken e p → Taken f p)
+Readied e (Some x) f = (e .status ≡ Failed x) × (f ≡ e)
+
+-- what a part of a text does, whatever was taken in before it and whatever text comes after it
+pub data Reads (e : Reader) (part : List ℕ) (r : Progress) (f : Reader) : Type 0 where
+  -- all of it is taken in, and the record goes on
+  onward : r .event ≡ More → r .used ≡ length part → f .status ≡ Open → ((p : List ℕ) → Taken e p → Taken f (p ++ part)) → Reads e part r f
+  -- a record ends with what is used of it
+  ended : r .event ≡ Ended → 0 < r .used → r .used ≤ length part → f .status ≡ Complete
+      → ((p : List ℕ) → Taken e p → (rest : List ℕ) → Record (p ++ (part ++ rest)) (fieldsOf (f .fields)) (drop (r .used) part ++ rest)) → Reads e part r f
+  -- the first fault of the text lies after what is used of it
+  broken : (x : Fault) → r .event ≡ Faulty x → r .used < length part → f .status ≡ Failed x
+      → ((p : List ℕ) → Taken e p → (rest : List ℕ) → FirstFault (p ++ (part ++ rest)) (length p + r .used) x) → Reads e part r f
+  -- the reading had ended at a fault
+  over : (x : Fault) → e .status ≡ Failed x → r .event ≡ Faulty x → r .used ≡ 0 → f ≡ e → Reads e part r f
+
+-- what the end of the text does
+pub data Finishes (e : Reader) (r : Event) (f : Reader) : Type 0 where
+  -- it comes between two records
+  clear : r ≡ More → f .status ≡ Open → ((p : List ℕ) → Taken e p → (p ≡ []) × Taken f []) → Finishes e r f
+  -- it ends a record
+  finished : r ≡ Ended → f .status ≡ Complete → ((p : List ℕ) → Taken e p → Record p (fieldsOf (f .fields)) []) → Finishes e r f
+  -- it comes too soon
+  too-soon : (x : Fault) → r ≡ Faulty x → f .status ≡ Failed x → ((p : List ℕ) → Taken e p → FirstFault p (length p) x) → Finishes e r f
+  -- the reading had ended at a fault
+  failed-before : (x : Fault) → e .status ≡ Failed x → r ≡ Faulty x → f ≡ e → Finishes e r f

@@ -1,6 +1,6 @@
 // A reader of records that is given its text in parts, in fixed memory.
-mod push;
 mod read;
+mod take_in;
 
 ghost use Prim.Native.Nat.{_≤_};
 use crate::action::Mode;

@@ -73,7 +73,11 @@ impl FieldList {
         ensures within { λ r. ⌜ startOf (now (self .entry) .ends) k ≤ r ⌝ ∗ ⌜ r ≤ 1024 ⌝ }
         ensures field { λ r. ⌜ nth (fieldsOf (now (self .entry))) k ≡ Some (between (startOf (now (self .entry) .ends) k) r (now (self .entry) .bytes)) ⌝ }
     {
-        if k == self.commas { self.len } else { self.ends[k] as usize }
+        if k == self.commas {
+            self.len
+        } else {
+            self.ends[k] as usize
+        }
     }
 
     /// Whether the last field has no byte yet.

@@ -45,7 +45,7 @@ returns-in-Return c =
     let e = c .args .self .now in
     let b = c .args .byte in
     let acts = acts-as (e .mode) (current (e .fields)) b (c .is-fresh-fresh .ensures) (c .act .ensures) (c .in-Return .is) in
-    λ p t. taken-open _ (p ++ (b ∷ [])) (c .pre) (goes-return (e .mode) (complete (e .fields)) (current (e .fields)) (e .taken) b p acts (open-taken e p (c .pre) t))
+    (c .pre, λ p t. taken-open _ (p ++ (b ∷ [])) (c .pre) (goes-return (e .mode) (complete (e .fields)) (current (e .fields)) (e .taken) b p acts (open-taken e p (c .pre) t)))
 
 pub returns-in-End : need.returns-in-End
 returns-in-End c =

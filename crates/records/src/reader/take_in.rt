@@ -4,9 +4,9 @@ ghost use mathlib.Core.Path.{_≡_};
 ghost use mathlib.Core.List.{[], _∷_, _++_};
 ghost use Rattle.records.specs.FieldLists.{complete, current};
 ghost use Rattle.records.specs.Readers.{Counted, CountedField, Takes};
-use crate::action::act;
 use crate::action::Action;
 use crate::action::Mode;
+use crate::action::act;
 use crate::fault::Fault;
 use crate::limits::MAX_BYTES;
 use crate::reader::Event;
@@ -15,7 +15,7 @@ use crate::reader::Status;
 
 impl Reader {
     /// Ends the reading at a fault.
-    fn fail(&mut self, fault: Fault) -> Event
+    pub(crate) fn fail(&mut self, fault: Fault) -> Event
         ensures { λ r. ⌜ r ≡ Event.Fault fault ⌝ ∗ ⌜ now (self .exit) .status ≡ Status.Failed fault ⌝ }
     {
         self.status = Status::Failed(fault);
@@ -61,7 +61,7 @@ impl Reader {
     }
 
     /// Takes in a byte of the record that it is in.
-    fn take_in(&mut self, byte: u8) -> Event
+    pub(crate) fn take_in(&mut self, byte: u8) -> Event
         requires { ⌜ now self .status ≡ Status.Open ⌝ }
         ensures { λ r. ⌜ Takes (now (self .entry)) byte r (now (self .exit)) ⌝ }
     {
