@@ -5,3 +5,4 @@ pub mod Steps
 pub mod Numbers
 pub mod Faults
 pub mod Readers
+pub mod Unique

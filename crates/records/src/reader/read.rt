@@ -15,6 +15,7 @@ impl Reader {
     /// A reader at the start of a text.
     pub fn new() -> Reader
         ensures ready { λ r. ⌜ r .status ≡ Status.Open ⌝ ∗ ⌜ Taken r [] ⌝ }
+        ensures reading { λ _. ⌜ OneRecord ⌝ ∗ ⌜ OneFault ⌝ }
     {
         Reader {
             fields: FieldList::new(),
