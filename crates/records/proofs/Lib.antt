@@ -6,3 +6,9 @@ pub mod Numbers
 pub mod Faults
 pub mod Readers
 pub mod Unique
+pub mod Passing
+pub mod Lengths
+pub mod Lines
+pub mod Puts
+pub mod Reasons
+pub mod ReadsBack

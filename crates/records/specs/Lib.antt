@@ -5,3 +5,5 @@ pub mod FieldLists
 pub mod Reading
 pub mod Numbers
 pub mod Readers
+pub mod Buffers
+pub mod Writing

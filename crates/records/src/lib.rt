@@ -6,6 +6,7 @@ mod field_list;
 mod limits;
 mod numeral;
 mod reader;
+mod writer;
 
 pub use fault::Fault;
 pub use field_list::FieldList;
@@ -16,3 +17,5 @@ pub use numeral::number;
 pub use reader::Event;
 pub use reader::Progress;
 pub use reader::Reader;
+pub use writer::Unwritable;
+pub use writer::write_record;
