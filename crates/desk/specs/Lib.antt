@@ -1,0 +1,5 @@
+-- What the contracts of this crate cite.
+pub mod Words
+pub mod Calls
+pub mod Replies
+pub mod Lines

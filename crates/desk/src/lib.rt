@@ -1,0 +1,9 @@
+// From a text of records to calls, and from their answers to records.
+mod call;
+mod reply;
+mod word;
+
+pub use call::Call;
+pub use reply::Line;
+pub use reply::Reply;
+pub use word::Word;
