@@ -3,3 +3,5 @@ pub mod Words
 pub mod Calls
 pub mod Replies
 pub mod Lines
+pub mod Carrying
+pub mod Serving

@@ -27,6 +27,11 @@ abbrev pub rowOf : Answer → Row
 rowOf Done = record { refusal = 0; first = pos 0; second = pos 0 }
 rowOf (Refused refusal) = record { refusal = numberOf refusal; first = pos 0; second = pos 0 }
 
+-- the answer of a call that has nothing to report
+abbrev pub doneOr : {A : Type 0} → Result A Refusal → Answer
+doneOr (Ok x) = Done
+doneOr (Err refusal) = Refused refusal
+
 -- a reason unless the test holds, and then the next reason, if there is one
 abbrev pub unless : Bool → Refusal → Option Refusal → Option Refusal
 unless test reason next = cond test next (Some reason)

@@ -1,6 +1,6 @@
 // What a call answers, and the three numbers that stand for it in a record.
 ghost use mathlib.Core.Path.{_≡_};
-ghost use Rattle.measures.specs.Answers.{rowOf};
+ghost use Rattle.measures.specs.Answers.{doneOr, rowOf};
 use crate::refusal::Refusal;
 use crate::refusal::RefusalDebug;
 use crate::refusal::RefusalPartialEq;
@@ -23,6 +23,16 @@ pub struct Row {
 }
 
 impl Answer {
+    /// The answer of a call that has nothing to report.
+    pub fn of_done(result: Result<(), Refusal>) -> Answer
+        ensures { λ r. ⌜ r ≡ doneOr result ⌝ }
+    {
+        match result {
+            Ok(()) => Answer::Done,
+            Err(refusal) => Answer::Refused(refusal),
+        }
+    }
+
     /// The numbers that stand for this answer in a record.
     pub fn row(self) -> Row
         ensures { λ r. ⌜ r ≡ rowOf self ⌝ }

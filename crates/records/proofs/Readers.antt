@@ -12,7 +12,7 @@ use Rattle.records.specs.Actions.{actionOf}
 use Rattle.records.specs.FieldLists.{isEmpty, complete, current, fieldsOf}
 use Rattle.records.specs.Grammar.{Record, FirstFault}
 use Rattle.records.specs.Reading.{UnderWay, ofLineEnd, start}
-use Rattle.records.specs.Readers.{Stands, Counted, CountedField, TakenAs, Taken, Takes, Readied, Reads, onward, ended, broken, over, Finishes, clear, finished, too-soon, failed-before}
+use Rattle.records.specs.Readers.{Stands, Counted, CountedField, TakenAs, Taken, Takes, Going, Readied, ReadOn, onward, ended, broken, FinishOn, clear, finished, too-soon, ReadsAs, FinishesAs, Reads, Finishes}
 use Rattle.records.specs.declared.action.Mode.{Mode}
 use Rattle.records.specs.declared.action.Mode.the-variants.{Plain, Quoted, Closing, Returned}
 use Rattle.records.specs.declared.action.Action.{Action}
@@ -93,9 +93,12 @@ under-way-start l none empty =
     (subst (λ v. UnderWay Plain [] v 0 []) (sym empty)
     (record { before = []; part = []; separated = start; partly = (refl, refl); joined = refl; counted = refl }))
 
--- a reader in a record has not failed
-never-failed : (g : Reader) (x : Fault) → g .status ≡ Open → g .status ≡ Failed x → ⊥
-never-failed g x s failed = let z : _≡_ {A = ℕ} 0 1 = cc in omega arith
+-- a reader that is in a record, or at the end of one, has not failed
+pub goes-open-status : (e : Reader) → e .status ≡ Open → Going e
+goes-open-status e s x failed = let z : _≡_ {A = ℕ} 0 1 = cc in omega arith
+
+pub goes-complete : (e : Reader) → e .status ≡ Complete → Going e
+goes-complete e s x failed = let z : _≡_ {A = ℕ} 0 1 = cc in omega arith
 
 -- between two records nothing is taken in
 pub taken-complete : (e : Reader) (p : List ℕ) → e .status ≡ Complete → Taken e p → p ≡ []
@@ -118,12 +121,12 @@ module _ (e : Reader) (part : List ℕ) where
       append-assoc p (take i part) (getD part i 0 ∷ (drop (i + 1) part ++ rest))
       ∙ ap (λ x. p ++ x) (ap (λ x. take i part ++ (x ++ rest)) (sym (drop-more part i 0 within)) ∙ sym (append-assoc (take i part) (drop i part) rest) ∙ ap (λ x. x ++ rest) (take-append-drop i part))
 
-  pub along-ended : (f g : Reader) (i : ℕ) → i < length part → Along f i → Takes f (getD part i 0) Ended g → Reads e part (record { used = i + 1; event = Ended }) g
+  pub along-ended : (f g : Reader) (i : ℕ) → i < length part → Along f i → Takes f (getD part i 0) Ended g → ReadOn e part (record { used = i + 1; event = Ended }) g
   along-ended f g i within along takes =
       ended refl (omega arith) (omega arith) (takes .0)
       (λ p t rest. subst (λ x. Record x (fieldsOf (g .fields)) (drop (i + 1) part ++ rest)) (after p i rest within) (takes .1 (p ++ take i part) (along p t) (drop (i + 1) part ++ rest)))
 
-  pub along-broken : (f g : Reader) (i : ℕ) (x : Fault) → i < length part → Along f i → Takes f (getD part i 0) (Faulty x) g → Reads e part (record { used = i; event = Faulty x }) g
+  pub along-broken : (f g : Reader) (i : ℕ) (x : Fault) → i < length part → Along f i → Takes f (getD part i 0) (Faulty x) g → ReadOn e part (record { used = i; event = Faulty x }) g
   along-broken f g i x within along takes =
       broken x refl within (takes .0)
       (λ p t rest. subst (λ n. FirstFault (p ++ (part ++ rest)) n x) (length-append p (take i part) ∙ ap (λ n. length p + n) (length-take-le i part (omega arith)))
@@ -131,17 +134,39 @@ module _ (e : Reader) (part : List ℕ) where
 
 -- a reader that was made ready first
 
-pub reads-ready : (e g f : Reader) (part : List ℕ) (r : Progress) → Readied e None g → Reads g part r f → Reads e part r f
-reads-ready e g f part r (s, t) (onward v u o h) = onward v u o (λ p k. h p (t p k))
-reads-ready e g f part r (s, t) (ended v z u o h) = ended v z u o (λ p k. h p (t p k))
-reads-ready e g f part r (s, t) (broken x v u o h) = broken x v u o (λ p k. h p (t p k))
-reads-ready e g f part r (s, t) (over x failed v u o) = absurd (never-failed g x s failed)
+reads-as : (s : Status) (e : Reader) (part : List ℕ) (r : Progress) (f : Reader) → ((x : Fault) → s ≡ Failed x → ⊥) → ReadOn e part r f → ReadsAs s e part r f
+reads-as Open e part r f goes h = h
+reads-as Complete e part r f goes h = h
+reads-as (Failed x) e part r f goes h = absurd (goes x refl)
 
-pub finishes-ready : (e g f : Reader) (r : Event) → Readied e None g → Finishes g r f → Finishes e r f
-finishes-ready e g f r (s, t) (clear v o h) = clear v o (λ p k. h p (t p k))
-finishes-ready e g f r (s, t) (finished v o h) = finished v o (λ p k. h p (t p k))
-finishes-ready e g f r (s, t) (too-soon x v o h) = too-soon x v o (λ p k. h p (t p k))
-finishes-ready e g f r (s, t) (failed-before x failed v o) = absurd (never-failed g x s failed)
+finishes-as : (s : Status) (e : Reader) (r : Event) (f : Reader) → ((x : Fault) → s ≡ Failed x → ⊥) → FinishOn e r f → FinishesAs s e r f
+finishes-as Open e r f goes h = h
+finishes-as Complete e r f goes h = h
+finishes-as (Failed x) e r f goes h = absurd (goes x refl)
+
+read-ready : (e g f : Reader) (part : List ℕ) (r : Progress) → ((p : List ℕ) → Taken e p → Taken g p) → ReadOn g part r f → ReadOn e part r f
+read-ready e g f part r t (onward v u o h) = onward v u o (λ p k. h p (t p k))
+read-ready e g f part r t (ended v z u o h) = ended v z u o (λ p k. h p (t p k))
+read-ready e g f part r t (broken x v u o h) = broken x v u o (λ p k. h p (t p k))
+
+finish-ready : (e g f : Reader) (r : Event) → ((p : List ℕ) → Taken e p → Taken g p) → FinishOn g r f → FinishOn e r f
+finish-ready e g f r t (clear v o h) = clear v o (λ p k. h p (t p k))
+finish-ready e g f r t (finished v o h) = finished v o (λ p k. h p (t p k))
+finish-ready e g f r t (too-soon x v o h) = too-soon x v o (λ p k. h p (t p k))
+
+pub reads-ready : (e g f : Reader) (part : List ℕ) (r : Progress) → Readied e None g → ReadOn g part r f → Reads e part r f
+reads-ready e g f part r (goes, s, t) h = reads-as (e .status) e part r f goes (read-ready e g f part r t h)
+
+pub finishes-ready : (e g f : Reader) (r : Event) → Readied e None g → FinishOn g r f → Finishes e r f
+finishes-ready e g f r (goes, s, t) h = finishes-as (e .status) e r f goes (finish-ready e g f r t h)
+
+-- a reader that had failed
+
+pub reads-failed : (e f : Reader) (part : List ℕ) (x : Fault) → Readied e (Some x) f → Reads e part (record { used = 0; event = Faulty x }) f
+reads-failed e f part x (s, same) = subst (λ y. ReadsAs y e part (record { used = 0; event = Faulty x }) f) (sym s) (refl, refl, same)
+
+pub finishes-failed : (e f : Reader) (x : Fault) → Readied e (Some x) f → Finishes e (Faulty x) f
+finishes-failed e f x (s, same) = subst (λ y. FinishesAs y e (Faulty x) f) (sym s) (refl, same)
 
 -- the end of the text
 
@@ -149,14 +174,14 @@ level-over : (m : Mode) → (m ≡ Plain) ⊎ (m ≡ Closing) → ofLineEnd m �
 level-over m (inl e) = ap ofLineEnd e
 level-over m (inr e) = ap ofLineEnd e
 
-pub finish-clear : (e : Reader) → e .status ≡ Open → (e .mode ≡ Plain) ⊎ (e .mode ≡ Closing) → e .taken ≡ 0 → Finishes e More e
+pub finish-clear : (e : Reader) → e .status ≡ Open → (e .mode ≡ Plain) ⊎ (e .mode ≡ Closing) → e .taken ≡ 0 → FinishOn e More e
 finish-clear e s m z =
     clear refl s (λ p t.
     let u = open-taken e p s t in
     let none : p ≡ [] = nil-from-length p (u .counted ∙ (let k : e .taken + ofLineEnd (e .mode) ≡ 0 = omega (arith, level-over (e .mode) m) in k)) in
     (none, subst (Taken e) none t))
 
-pub finish-record : (e f : Reader) → e .status ≡ Open → (e .mode ≡ Plain) ⊎ (e .mode ≡ Closing) → 0 < e .taken → f .status ≡ Complete → f .fields ≡ e .fields → Finishes e Ended f
+pub finish-record : (e f : Reader) → e .status ≡ Open → (e .mode ≡ Plain) ⊎ (e .mode ≡ Closing) → 0 < e .taken → f .status ≡ Complete → f .fields ≡ e .fields → FinishOn e Ended f
 finish-record e f s m some done same =
     finished refl done (λ p t. subst (λ l. Record p (fieldsOf l) []) (sym same)
     (ends-text (e .mode) (complete (e .fields)) (current (e .fields)) (e .taken) p m (open-taken e p s t) (few-complete (e .fields)) (e .short) some))
@@ -167,7 +192,7 @@ cut-some Returned fs v n p m u = omega (arith, u .counted)
 cut-some Plain fs v n p m u = absurd (grind arith)
 cut-some Closing fs v n p m u = absurd (grind arith)
 
-pub finish-cut : (e f : Reader) (r : Event) → e .status ≡ Open → (e .mode ≡ Quoted) ⊎ (e .mode ≡ Returned) → r ≡ Faulty BadText → f .status ≡ Failed BadText → Finishes e r f
+pub finish-cut : (e f : Reader) (r : Event) → e .status ≡ Open → (e .mode ≡ Quoted) ⊎ (e .mode ≡ Returned) → r ≡ Faulty BadText → f .status ≡ Failed BadText → FinishOn e r f
 finish-cut e f r s m is failed =
     too-soon BadText is failed (λ p t.
     let u = open-taken e p s t in

@@ -55,31 +55,48 @@ Takes e b More f = (f .status ≡ Open) × ((p : List ℕ) → Taken e p → Tak
 Takes e b Ended f = (f .status ≡ Complete) × ((p : List ℕ) → Taken e p → (rest : List ℕ) → Record (p ++ (b ∷ rest)) (fieldsOf (f .fields)) rest)
 Takes e b (Faulty x) f = (f .status ≡ Failed x) × ((p : List ℕ) → Taken e p → (rest : List ℕ) → FirstFault (p ++ (b ∷ rest)) (length p) x)
 
+-- the reading has not ended at a fault
+abbrev pub Going : Reader → Type 0
+Going e = (x : Fault) → e .status ≡ Failed x → ⊥
+
 -- made ready for the next byte: what was taken in stays, and a failed reader stays as it is
 abbrev pub Readied : Reader → Option Fault → Reader → Type 0
-Readied e None f = (f .status ≡ Open) × ((p : List ℕ) → Taken e p → Taken f p)
+Readied e None f = Going e × (f .status ≡ Open) × ((p : List ℕ) → Taken e p → Taken f p)
 Readied e (Some x) f = (e .status ≡ Failed x) × (f ≡ e)
 
 -- what a part of a text does, whatever was taken in before it and whatever text comes after it
-pub data Reads (e : Reader) (part : List ℕ) (r : Progress) (f : Reader) : Type 0 where
+pub data ReadOn (e : Reader) (part : List ℕ) (r : Progress) (f : Reader) : Type 0 where
   -- all of it is taken in, and the record goes on
-  onward : r .event ≡ More → r .used ≡ length part → f .status ≡ Open → ((p : List ℕ) → Taken e p → Taken f (p ++ part)) → Reads e part r f
+  onward : r .event ≡ More → r .used ≡ length part → f .status ≡ Open → ((p : List ℕ) → Taken e p → Taken f (p ++ part)) → ReadOn e part r f
   -- a record ends with what is used of it
   ended : r .event ≡ Ended → 0 < r .used → r .used ≤ length part → f .status ≡ Complete
-      → ((p : List ℕ) → Taken e p → (rest : List ℕ) → Record (p ++ (part ++ rest)) (fieldsOf (f .fields)) (drop (r .used) part ++ rest)) → Reads e part r f
+    → ((p : List ℕ) → Taken e p → (rest : List ℕ) → Record (p ++ (part ++ rest)) (fieldsOf (f .fields)) (drop (r .used) part ++ rest)) → ReadOn e part r f
   -- the first fault of the text lies after what is used of it
   broken : (x : Fault) → r .event ≡ Faulty x → r .used < length part → f .status ≡ Failed x
-      → ((p : List ℕ) → Taken e p → (rest : List ℕ) → FirstFault (p ++ (part ++ rest)) (length p + r .used) x) → Reads e part r f
-  -- the reading had ended at a fault
-  over : (x : Fault) → e .status ≡ Failed x → r .event ≡ Faulty x → r .used ≡ 0 → f ≡ e → Reads e part r f
+    → ((p : List ℕ) → Taken e p → (rest : List ℕ) → FirstFault (p ++ (part ++ rest)) (length p + r .used) x) → ReadOn e part r f
 
--- what the end of the text does
-pub data Finishes (e : Reader) (r : Event) (f : Reader) : Type 0 where
+-- what the end of a text does
+pub data FinishOn (e : Reader) (r : Event) (f : Reader) : Type 0 where
   -- it comes between two records
-  clear : r ≡ More → f .status ≡ Open → ((p : List ℕ) → Taken e p → (p ≡ []) × Taken f []) → Finishes e r f
+  clear : r ≡ More → f .status ≡ Open → ((p : List ℕ) → Taken e p → (p ≡ []) × Taken f []) → FinishOn e r f
   -- it ends a record
-  finished : r ≡ Ended → f .status ≡ Complete → ((p : List ℕ) → Taken e p → Record p (fieldsOf (f .fields)) []) → Finishes e r f
+  finished : r ≡ Ended → f .status ≡ Complete → ((p : List ℕ) → Taken e p → Record p (fieldsOf (f .fields)) []) → FinishOn e r f
   -- it comes too soon
-  too-soon : (x : Fault) → r ≡ Faulty x → f .status ≡ Failed x → ((p : List ℕ) → Taken e p → FirstFault p (length p) x) → Finishes e r f
-  -- the reading had ended at a fault
-  failed-before : (x : Fault) → e .status ≡ Failed x → r ≡ Faulty x → f ≡ e → Finishes e r f
+  too-soon : (x : Fault) → r ≡ Faulty x → f .status ≡ Failed x → ((p : List ℕ) → Taken e p → FirstFault p (length p) x) → FinishOn e r f
+
+-- once the reading has ended at a fault, the reader stays as it is and answers the fault again
+abbrev pub ReadsAs : Status → Reader → List ℕ → Progress → Reader → Type 0
+ReadsAs Open e part r f = ReadOn e part r f
+ReadsAs Complete e part r f = ReadOn e part r f
+ReadsAs (Failed x) e part r f = (r .event ≡ Faulty x) × (r .used ≡ 0) × (f ≡ e)
+
+abbrev pub FinishesAs : Status → Reader → Event → Reader → Type 0
+FinishesAs Open e r f = FinishOn e r f
+FinishesAs Complete e r f = FinishOn e r f
+FinishesAs (Failed x) e r f = (r ≡ Faulty x) × (f ≡ e)
+
+abbrev pub Reads : Reader → List ℕ → Progress → Reader → Type 0
+Reads e part r f = ReadsAs (e .status) e part r f
+
+abbrev pub Finishes : Reader → Event → Reader → Type 0
+Finishes e r f = FinishesAs (e .status) e r f

@@ -2,7 +2,7 @@
 ghost use mathlib.Core.Path.{_≡_};
 ghost use mathlib.Core.List.{[]};
 ghost use Rattle.records.specs.Grammar.{OneRecord, OneFault};
-ghost use Rattle.records.specs.Readers.{Taken, Readied, Reads, Finishes};
+ghost use Rattle.records.specs.Readers.{Taken, Readied, ReadOn, FinishOn, Reads, Finishes};
 use crate::action::Mode;
 use crate::fault::Fault;
 use crate::field_list::FieldList;
@@ -58,7 +58,7 @@ impl Reader {
     /// Takes in a part of the text from inside a record.
     fn read_on(&mut self, part: &[u8]) -> Progress
         requires { ⌜ now self .status ≡ Status.Open ⌝ }
-        ensures { λ r. ⌜ Reads (now (self .entry)) (now (part .entry)) r (now (self .exit)) ⌝ }
+        ensures { λ r. ⌜ ReadOn (now (self .entry)) (now (part .entry)) r (now (self .exit)) ⌝ }
     {
         for (i, byte) in part.iter().enumerate() {
             match self.take_in(*byte) {
@@ -96,7 +96,7 @@ impl Reader {
     /// Takes in the end of the text inside a record, or before one.
     fn finish_open(&mut self) -> Event
         requires { ⌜ now self .status ≡ Status.Open ⌝ }
-        ensures { λ r. ⌜ Finishes (now (self .entry)) r (now (self .exit)) ⌝ }
+        ensures { λ r. ⌜ FinishOn (now (self .entry)) r (now (self .exit)) ⌝ }
     {
         match self.mode {
             Mode::Plain | Mode::Closing => {
