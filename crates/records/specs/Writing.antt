@@ -53,11 +53,6 @@ unwritable fields room =
     (cond (too-long fields) (Some TooLong)
     (cond (ltb room (length (whole fields))) (Some NoRoom) None)))
 
--- what a record measures: its length with its CRLF, or the first reason against it
-abbrev pub Measured : List (List ℕ) → ℕ → Result ℕ Unwritable → Type 0
-Measured fields room (Ok n) = (unwritable fields room ≡ None) × (n ≡ length (whole fields))
-Measured fields room (Err why) = unwritable fields room ≡ Some why
-
 -- the bytes of each field that a caller passes
 abbrev pub bytes-of : List (RefT (List ℕ)) → List (List ℕ)
 bytes-of = map (λ field. field .now)

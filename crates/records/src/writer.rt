@@ -5,7 +5,7 @@ ghost use mathlib.Core.List.{[], _∷_};
 ghost use mathlib.Core.Path.{_≡_};
 ghost use Rattle.records.specs.Buffers.{Put};
 ghost use Rattle.records.specs.Grammar.{doubled, every, inQuotes, plainByte, textByte};
-ghost use Rattle.records.specs.Writing.{Measured, Wrote, all-text, allowed, bytes-of, comma-spelled, line, spelled, whole};
+ghost use Rattle.records.specs.Writing.{Wrote, all-text, allowed, bytes-of, comma-spelled, line, spelled, unwritable, whole};
 use super::bytes;
 use super::limits::MAX_BYTES;
 use super::limits::MAX_FIELDS;
@@ -109,23 +109,24 @@ fn line_len(first: &[u8], rest: &[&[u8]]) -> Option<usize>
     Some(n)
 }
 
-// The length of a record with its CRLF, or the first reason why it cannot be written into so much room.
-fn measure(first: &[u8], rest: &[&[u8]], room: usize) -> Result<usize, Unwritable>
-    ensures { λ r. ⌜ Measured (now (first .entry) ∷ bytes-of (now (rest .entry))) room r ⌝ }
+// The first reason why a record cannot be written into so much room, or `None`.
+fn reason(first: &[u8], rest: &[&[u8]], room: usize) -> Option<Unwritable>
+    ensures { λ r. ⌜ r ≡ unwritable (now (first .entry) ∷ bytes-of (now (rest .entry))) room ⌝ }
 {
     if !is_text(first) || !are_text(rest) {
-        return Err(Unwritable::NotText);
+        return Some(Unwritable::NotText);
     }
     if rest.len() >= MAX_FIELDS {
-        return Err(Unwritable::TooLong);
+        return Some(Unwritable::TooLong);
     }
     let Some(n) = line_len(first, rest) else {
-        return Err(Unwritable::TooLong);
+        return Some(Unwritable::TooLong);
     };
     if room < n + 2 {
-        return Err(Unwritable::NoRoom);
+        Some(Unwritable::NoRoom)
+    } else {
+        None
     }
-    Ok(n + 2)
 }
 
 // Writes a byte.
@@ -220,8 +221,10 @@ fn put_record(out: &mut [u8], first: &[u8], rest: &[&[u8]]) -> usize
 fn write_fields(first: &[u8], rest: &[&[u8]], out: &mut [u8]) -> Result<usize, Unwritable>
     ensures { λ r. ⌜ Wrote (now (first .entry) ∷ bytes-of (now (rest .entry))) (now (out .entry)) r (now (out .exit)) ⌝ }
 {
-    measure(first, rest, out.len())?;
-    Ok(put_record(out, first, rest))
+    match reason(first, rest, out.len()) {
+        Some(why) => Err(why),
+        None => Ok(put_record(out, first, rest)),
+    }
 }
 
 /// Writes one record with its CRLF at the start of `out`, and gives how many bytes that took.
@@ -251,9 +254,11 @@ mod tests {
     fn refusals_leave_the_buffer() -> Result<(), Fail> {
         let bell: [&[u8]; 2] = [b"a", b"\x07"];
         let long: [&[u8]; 1] = [b"abc"];
+        let many: [&[u8]; 41] = [b""; 41];
         let mut out = [7; 4];
         check_eq(write_record(&[], &mut out), Err(Unwritable::NoField))?;
         check_eq(write_record(&bell, &mut out), Err(Unwritable::NotText))?;
+        check_eq(write_record(&many, &mut out), Err(Unwritable::TooLong))?;
         check_eq(write_record(&long, &mut out), Err(Unwritable::NoRoom))?;
         check(out == [7; 4])
     }

@@ -27,9 +27,9 @@ loop-b-again c =
     let next = put .next-place in
     let more = doubled-more field i (c .loop-b-test .taken) in
     let onward =
-        ap (λ l. put-at (c .loop-b .out) (c .loop-b .n) (l ++ (34 ∷ []))) more
-        ∙ ap (put-at (c .loop-b .out) (c .loop-b .n)) (append-assoc (doubled (getD field i 0 ∷ [])) (doubled (drop (i + 1) field)) (34 ∷ []))
-        ∙ put-then put (doubled (drop (i + 1) field) ++ (34 ∷ []))
+    ap (λ l. put-at (c .loop-b .out) (c .loop-b .n) (l ++ (34 ∷ []))) more
+    ∙ ap (put-at (c .loop-b .out) (c .loop-b .n)) (append-assoc (doubled (getD field i 0 ∷ [])) (doubled (drop (i + 1) field)) (34 ∷ []))
+    ∙ put-then put (doubled (drop (i + 1) field) ++ (34 ∷ []))
     in
     (omega (arith, length-doubled-more field i (c .loop-b-test .taken)), sym onward ∙ c .loop-b .inv .1)
 

@@ -35,9 +35,9 @@ loop-field-again c =
     let put = c .put-next-n .ensures in
     let next = put .next-place in
     let onward =
-        ap (λ l. put-at (c .loop-field .out) (c .loop-field .n) (l ++ (13 ∷ (10 ∷ [])))) (others-more rest i (c .loop-field-test .taken))
-        ∙ ap (put-at (c .loop-field .out) (c .loop-field .n)) (append-assoc (comma-spelled (getD rest i no-field .now)) (others-from rest (i + 1)) (13 ∷ (10 ∷ [])))
-        ∙ put-then put (others-from rest (i + 1) ++ (13 ∷ (10 ∷ [])))
+    ap (λ l. put-at (c .loop-field .out) (c .loop-field .n) (l ++ (13 ∷ (10 ∷ [])))) (others-more rest i (c .loop-field-test .taken))
+    ∙ ap (put-at (c .loop-field .out) (c .loop-field .n)) (append-assoc (comma-spelled (getD rest i no-field .now)) (others-from rest (i + 1)) (13 ∷ (10 ∷ [])))
+    ∙ put-then put (others-from rest (i + 1) ++ (13 ∷ (10 ∷ [])))
     in
     (omega (arith, length-others-more rest i (c .loop-field-test .taken)), sym onward ∙ c .loop-field .inv .1)
 

@@ -1,6 +1,7 @@
--- A record that was measured and put down reads back equal.
+-- A record that nothing speaks against and that was put down reads back equal.
+use mathlib.Core.Path.{sym}
 use Rattle.records.proofs.ReadsBack.{written-from-put}
 use Rattle.records.proofs.writer.write_fields.Needs as need
 
-pub returns : need.returns
-returns c = written-from-put _ _ (c .in-Continue-measure .ensures tt .0) (c .put-record .ensures)
+pub returns-in-None : need.returns-in-None
+returns-in-None c = written-from-put _ _ (sym (c .in-None .ensures tt)) (c .put-record .ensures)
