@@ -53,7 +53,9 @@ each-status F G open′ complete failed (Failed x) h = failed x h
 
 -- desks with the same parts are the same
 same-desk : (e f : Desk) → f .reader ≡ e .reader → f .table ≡ e .table → f ≡ e
-same-desk e f r t = cc
+same-desk e f r t =
+    let made : Reader → AccountTable → Desk = λ x y. record { reader = x; table = y } in
+    ap (λ x. made x (f .table)) r ∙ ap (made (e .reader)) t
 
 -- a part of a text: g is the reader after it, and f the desk after the reply
 
@@ -126,3 +128,53 @@ module _ (e f : Desk) (v : Event) (g : Reader) (same : f .reader ≡ g) (finishe
   end-fault x reply says is t =
       ends (Some reply) (cut-on x reply says is t)
       (λ y h. (ap Some says ∙ ap (λ z. Some (unread (refusalOf z))) (one-fault v x y is (h .0)), same-desk e f (same ∙ h .1) t))
+
+-- the replies to a whole text
+
+-- a desk whose reading has ended owes nothing
+owes-nothing : (e : Desk) (x : Fault) (text : List ℕ) (replies : List Reply) (t : AccountTable) → e .reader .status ≡ Failed x → Serves e text replies t
+owes-nothing e x text replies t s p k = absurd (subst (λ y. TakenAs y (e .reader) p) s k)
+
+continues-on : (e f : Desk) (part : List ℕ) (r : Turn) → TurnOn e part r f → Continues e part r f
+continues-on e f part r (serving.onward is t h) =
+    subst (λ x. Continues e part x f) (sym is)
+    (λ rest replies t′ serves p k.
+      subst (λ x. Served (e .table) x replies t′) (append-assoc p part rest) (subst (λ x. Served x ((p ++ part) ++ rest) replies t′) t (serves (p ++ part) (h p k))))
+continues-on e f part r (replied used reply fields is z u none said h) =
+    subst (λ x. Continues e part x f) (sym is)
+    (λ rest replies t′ serves p k. next (h p k rest) said (serves [] none))
+continues-on e f part r (faulty x used is s t u h) =
+    subst (λ y. Continues e part y f) (sym is)
+    (λ rest p k. subst (Served (e .table) (p ++ (part ++ rest)) (unread (refusalOf x) ∷ [])) (sym t) (broken-off (h p k rest)))
+
+continues-failed : (e f : Desk) (part : List ℕ) (r : Turn) (x : Fault) → e .reader .status ≡ Failed x → Continues e part r f
+continues-failed e f part More x s = λ rest replies t serves. owes-nothing e x (part ++ rest) replies t s
+continues-failed e f part (Answer used reply) x s = λ rest replies t serves. owes-nothing e x (part ++ rest) (reply ∷ replies) t s
+continues-failed e f part (End reply) x s = λ rest. owes-nothing e x (part ++ rest) (reply ∷ []) (f .table) s
+
+continues-as : (e f : Desk) (part : List ℕ) (r : Turn) (s : Status) → e .reader .status ≡ s → TurnsAs s e part r f → Continues e part r f
+continues-as e f part r Open is h = continues-on e f part r h
+continues-as e f part r Complete is h = continues-on e f part r h
+continues-as e f part r (Failed x) is h = continues-failed e f part r x is
+
+pub continues : (e f : Desk) (part : List ℕ) (r : Turn) → Turns e part r f → Continues e part r f
+continues e f part r h = continues-as e f part r (e .reader .status) refl h
+
+concludes-on : (e f : Desk) (r : Option Reply) → EndOn e r f → Concludes e r f
+concludes-on e f r (between is t h) p k =
+    subst (λ x. Served (e .table) (p ++ []) (listOf x) (f .table)) (sym is)
+    (subst (λ x. Served (e .table) x [] (f .table)) (sym (append-nil p ∙ h p k)) (subst (Served (e .table) [] []) (sym t) over))
+concludes-on e f r (last reply fields is said h) p k =
+    subst (λ x. Served (e .table) (p ++ []) (listOf x) (f .table)) (sym is)
+    (subst (λ x. Served (e .table) x (reply ∷ []) (f .table)) (sym (append-nil p)) (next (h p k) said over))
+concludes-on e f r (cut-off x is s t h) p k =
+    subst (λ y. Served (e .table) (p ++ []) (listOf y) (f .table)) (sym is)
+    (subst (λ y. Served (e .table) y (unread (refusalOf x) ∷ []) (f .table)) (sym (append-nil p)) (subst (Served (e .table) p (unread (refusalOf x) ∷ [])) (sym t) (broken-off (h p k))))
+
+concludes-as : (e f : Desk) (r : Option Reply) (s : Status) → e .reader .status ≡ s → EndsAs s e r f → Concludes e r f
+concludes-as e f r Open is h = concludes-on e f r h
+concludes-as e f r Complete is h = concludes-on e f r h
+concludes-as e f r (Failed x) is h = owes-nothing e x [] (listOf r) (f .table) is
+
+pub concludes : (e f : Desk) (r : Option Reply) → Ends e r f → Concludes e r f
+concludes e f r h = concludes-as e f r (e .reader .status) refl h
