@@ -21,7 +21,7 @@ use Rattle.records.specs.declared.reader.Status.{Status}
 use Rattle.records.specs.declared.reader.Status.the-variants.{Open, Complete, Failed}
 use Rattle.desk.specs.Replies.{unread, refusalOf}
 use Rattle.desk.specs.Serving as serving
-use Rattle.desk.specs.Serving.{Replied, Served, over, next, broken as broken-off, Serves, TurnOn, replied, faulty, EndOn, between, last, cut-off, TurnsAs, EndsAs, Turns, Ends, Continues, Concludes}
+use Rattle.desk.specs.Serving.{Replied, Served, over, next, broken as broken-off, Serves, TurnOn, replied, faulty, EndOn, between, last, cut-off, TurnsAs, EndsAs, Turns, Ends, Continues, Concludes, Within}
 use Rattle.desk.specs.declared.service.Desk.{Desk}
 use Rattle.desk.specs.declared.service.Turn.{Turn}
 use Rattle.desk.specs.declared.service.Turn.the-variants.{More, Reply as Answer, End}
@@ -93,6 +93,16 @@ module _ (e f : Desk) (part : List ℕ) (r : Progress) (g : Reader) (same : f .r
   turn-fault x reply says is t =
       turns (End reply) (fault-on x reply says is t)
       (λ y h. (ap End says ∙ ap (λ z. End (unread (refusalOf z))) (one-fault (r .event) x y is (h .0)), same-desk e f (same ∙ h .2) t))
+
+within-on : (e f : Desk) (part : List ℕ) (r : Turn) → TurnOn e part r f → Within (length part) r
+within-on e f part r (serving.onward is t h) = subst (Within (length part)) (sym is) tt
+within-on e f part r (replied used reply fields is z u none said h) = subst (Within (length part)) (sym is) (z, u)
+within-on e f part r (faulty x used is s t u h) = subst (Within (length part)) (sym is) tt
+
+pub turns-within : (e f : Desk) (part : List ℕ) (r : Turn) → Turns e part r f → Within (length part) r
+turns-within e f part r h =
+    each-status (λ s. TurnsAs s e part r f) (λ _. Within (length part) r) (within-on e f part r) (within-on e f part r)
+    (λ x failed. subst (Within (length part)) (sym (failed .0)) tt) (e .reader .status) h
 
 -- the end of the text
 

@@ -91,3 +91,9 @@ Continues e part (End reply) f = (rest : List ℕ) → Serves e (part ++ rest) (
 -- the replies that are owed at the end of the text
 abbrev pub Concludes : Desk → Option Reply → Desk → Type 0
 Concludes e r f = Serves e [] (listOf r) (f .table)
+
+-- a record that ends in a part of so many bytes uses some of them
+abbrev pub Within : ℕ → Turn → Type 0
+Within n More = Unit {0}
+Within n (Answer used reply) = (0 < used) × (used ≤ n)
+Within n (End reply) = Unit {0}

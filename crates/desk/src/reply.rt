@@ -24,6 +24,7 @@ pub struct Reply {
 }
 
 /// An answer record with its CRLF.
+#[derive(Drop)]
 pub struct Line {
     bytes: [u8; LINE_BYTES],
     len: usize,

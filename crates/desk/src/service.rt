@@ -1,10 +1,11 @@
 // The desk: it takes in a text of records part by part, carries out what each asks for, and replies to it.
+ghost use lib.ListN.{length};
 ghost use mathlib.Core.List.{[]};
 ghost use mathlib.Core.Path.{_≡_};
 ghost use Rattle.ends.specs.Tables.{listed};
 ghost use Rattle.records.specs.FieldLists.{fieldsOf};
 ghost use Rattle.records.specs.Readers.{Taken};
-ghost use Rattle.desk.specs.Serving.{Concludes, Continues, Ends, Replied, Turns};
+ghost use Rattle.desk.specs.Serving.{Concludes, Continues, Ends, Replied, Turns, Within};
 use crate::call::Call;
 use crate::reply::Reply;
 use ends::AccountTable;
@@ -24,6 +25,7 @@ pub enum Turn {
 }
 
 /// Reads records, and carries out their calls on an account table.
+#[derive(Drop)]
 pub struct Desk {
     reader: Reader,
     table: AccountTable,
@@ -44,6 +46,7 @@ impl Desk {
     pub fn take_in(&mut self, part: &[u8]) -> Turn
         ensures turn { λ r. ⌜ Turns (now (self .entry)) (now (part .entry)) r (now (self .exit)) ⌝ }
         ensures law { λ r. ⌜ Continues (now (self .entry)) (now (part .entry)) r (now (self .exit)) ⌝ }
+        ensures bounds { λ r. ⌜ Within (length (now (part .entry))) r ⌝ }
     {
         let progress = self.reader.read(part);
         match progress.event {

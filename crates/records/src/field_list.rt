@@ -7,6 +7,7 @@ use crate::limits::MAX_BYTES;
 use crate::limits::MAX_COMMAS;
 
 /// The fields of one record: their bytes one after the other, and where each field but the last ends.
+#[derive(Drop)]
 pub struct FieldList {
     bytes: [u8; MAX_BYTES],
     ends: [u16; MAX_COMMAS],

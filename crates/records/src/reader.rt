@@ -38,6 +38,7 @@ pub struct Progress {
 }
 
 /// Reads the records of a text one after the other.
+#[derive(Drop)]
 pub struct Reader {
     fields: FieldList,
     mode: Mode,
