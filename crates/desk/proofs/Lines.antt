@@ -46,13 +46,22 @@ pub writable : (word refusal first second : List ℕ) → length word ≤ 8 → 
     → unwritable (word ∷ (refusal ∷ (first ∷ (second ∷ [])))) 80 ≡ None
 writable w r f s few plain hr hf hs =
     let text : all-text (w ∷ (r ∷ (f ∷ (s ∷ [])))) ≡ true =
-        and-from _ _ (plain-text w plain) (and-from _ _ (plain-text r (hr .plain)) (and-from _ _ (plain-text f (hf .plain)) (and-from _ _ (plain-text s (hs .plain)) refl))) in
+    and-from _ _ (plain-text w plain) (and-from _ _ (plain-text r (hr .plain)) (and-from _ _ (plain-text f (hf .plain)) (and-from _ _ (plain-text s (hs .plain)) refl))) in
     let short : length (line (w ∷ (r ∷ (f ∷ (s ∷ []))))) ≤ 71 =
-        omega (arith, length-spelled w plain, length-spelled r (hr .plain), length-spelled f (hf .plain), length-spelled s (hs .plain),
-          hr .few, hf .few, hs .few,
-          length-append (spelled w) (comma-spelled r ++ (comma-spelled f ++ (comma-spelled s ++ []))),
-          length-append (comma-spelled r) (comma-spelled f ++ (comma-spelled s ++ [])),
-          length-append (comma-spelled f) (comma-spelled s ++ []), length-append (comma-spelled s) []) in
+    omega (
+      arith,
+      length-spelled w plain,
+      length-spelled r (hr .plain),
+      length-spelled f (hf .plain),
+      length-spelled s (hs .plain),
+      hr .few,
+      hf .few,
+      hs .few,
+      length-append (spelled w) (comma-spelled r ++ (comma-spelled f ++ (comma-spelled s ++ []))),
+      length-append (comma-spelled r) (comma-spelled f ++ (comma-spelled s ++ [])),
+      length-append (comma-spelled f) (comma-spelled s ++ []),
+      length-append (comma-spelled s) [],
+    ) in
     let whole-short : length (whole (w ∷ (r ∷ (f ∷ (s ∷ []))))) ≤ 73 = omega (arith, length-append (line (w ∷ (r ∷ (f ∷ (s ∷ []))))) (13 ∷ (10 ∷ []))) in
     nothing-against (w ∷ (r ∷ (f ∷ (s ∷ [])))) 80 refl text (or-from (ltb 40 4) (ltb 1024 (length (line (w ∷ (r ∷ (f ∷ (s ∷ []))))))) refl (le-ltb 1024 (length (line (w ∷ (r ∷ (f ∷ (s ∷ [])))))) (omega arith))) (omega arith)
 
@@ -70,7 +79,7 @@ module _ (word refusal first second refusal′ first′ second′ : List ℕ) (s
   never-refused before after why room few plain hr hf hs r =
       let none : unwritable (word ∷ (refusal ∷ (first ∷ (second ∷ [])))) 80 ≡ None = writable word refusal first second few plain hr hf hs in
       let some : unwritable (word ∷ (refusal ∷ (first ∷ (second ∷ [])))) 80 ≡ Some why =
-          ap (λ x. unwritable x 80) (sym same-fields) ∙ ap (unwritable (word ∷ (refusal′ ∷ (first′ ∷ (second′ ∷ []))))) (sym room) ∙ r .reason in
+      ap (λ x. unwritable x 80) (sym same-fields) ∙ ap (unwritable (word ∷ (refusal′ ∷ (first′ ∷ (second′ ∷ []))))) (sym room) ∙ r .reason in
       let z : _≡_ {A = ℕ} 0 1 = none-some none some in omega arith
 
   pub spelled-out : (before after : List ℕ) (n : ℕ) → Written (word ∷ (refusal′ ∷ (first′ ∷ (second′ ∷ [])))) before n after → Spells (take n after) word refusal first second
@@ -97,10 +106,10 @@ pub shows-reply : (reply : Reply) (row : Row) (line word refusal first second : 
     → word ≡ wordShown (reply .word) → refusal ≡ decimalOf (pos (row .refusal)) → first ≡ decimalOf (row .first) → second ≡ decimalOf (row .second) → Shows reply line
 shows-reply reply row line word refusal first second s row-is word-is refusal-is first-is second-is =
     let fields : (word ∷ (refusal ∷ (first ∷ (second ∷ [])))) ≡ fieldsShown reply =
-        ap (λ x. x ∷ (refusal ∷ (first ∷ (second ∷ [])))) word-is
-        ∙ ap (λ x. wordShown (reply .word) ∷ (x ∷ (first ∷ (second ∷ [])))) (refusal-is ∙ ap (λ r. decimalOf (pos (r .refusal))) row-is)
-        ∙ ap (λ x. wordShown (reply .word) ∷ (decimalOf (pos (rowOf (reply .answer) .refusal)) ∷ (x ∷ (second ∷ [])))) (first-is ∙ ap (λ r. decimalOf (r .first)) row-is)
-        ∙ ap (λ x. wordShown (reply .word) ∷ (decimalOf (pos (rowOf (reply .answer) .refusal)) ∷ (decimalOf (rowOf (reply .answer) .first) ∷ (x ∷ [])))) (second-is ∙ ap (λ r. decimalOf (r .second)) row-is) in
+    ap (λ x. x ∷ (refusal ∷ (first ∷ (second ∷ [])))) word-is
+    ∙ ap (λ x. wordShown (reply .word) ∷ (x ∷ (first ∷ (second ∷ [])))) (refusal-is ∙ ap (λ r. decimalOf (pos (r .refusal))) row-is)
+    ∙ ap (λ x. wordShown (reply .word) ∷ (decimalOf (pos (rowOf (reply .answer) .refusal)) ∷ (x ∷ (second ∷ [])))) (first-is ∙ ap (λ r. decimalOf (r .first)) row-is)
+    ∙ ap (λ x. wordShown (reply .word) ∷ (decimalOf (pos (rowOf (reply .answer) .refusal)) ∷ (decimalOf (rowOf (reply .answer) .first) ∷ (x ∷ [])))) (second-is ∙ ap (λ r. decimalOf (r .second)) row-is) in
     record {
       exact = s .exact ∙ ap whole fields;
       reads-back = λ rest. subst (λ x. Record (line ++ rest) x rest) fields (s .reads-back rest);

@@ -149,7 +149,7 @@ continues-on : (e f : Desk) (part : List ℕ) (r : Turn) → TurnOn e part r f �
 continues-on e f part r (serving.onward is t h) =
     subst (λ x. Continues e part x f) (sym is)
     (λ rest replies t′ serves p k.
-      subst (λ x. Served (e .table) x replies t′) (append-assoc p part rest) (subst (λ x. Served x ((p ++ part) ++ rest) replies t′) t (serves (p ++ part) (h p k))))
+    subst (λ x. Served (e .table) x replies t′) (append-assoc p part rest) (subst (λ x. Served x ((p ++ part) ++ rest) replies t′) t (serves (p ++ part) (h p k))))
 continues-on e f part r (replied used reply fields is z u none said h) =
     subst (λ x. Continues e part x f) (sym is)
     (λ rest replies t′ serves p k. next (h p k rest) said (serves [] none))

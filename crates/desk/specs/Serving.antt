@@ -35,7 +35,7 @@ Replied fields t reply t′ = RepliedTo (callIn fields) t reply t′
 pub data Served : AccountTable → List ℕ → List Reply → AccountTable → Type 0 where
   over : {t : AccountTable} → Served t [] [] t
   next : {t t₁ t′ : AccountTable} {text rest : List ℕ} {fields : List (List ℕ)} {reply : Reply} {replies : List Reply}
-    → Record text fields rest → Replied fields t reply t₁ → Served t₁ rest replies t′ → Served t text (reply ∷ replies) t′
+      → Record text fields rest → Replied fields t reply t₁ → Served t₁ rest replies t′ → Served t text (reply ∷ replies) t′
   broken : {t : AccountTable} {text : List ℕ} {place : ℕ} {fault : Fault} → FirstFault text place fault → Served t text (unread (refusalOf fault) ∷ []) t
 
 -- the replies that a desk owes to what it has taken in of a record and the text that is to come, and the table that they leave
@@ -48,11 +48,11 @@ pub data TurnOn (e : Desk) (part : List ℕ) (r : Turn) (f : Desk) : Type 0 wher
   onward : r ≡ More → f .table ≡ e .table → ((p : List ℕ) → Taken (e .reader) p → Taken (f .reader) (p ++ part)) → TurnOn e part r f
   -- a record ends with what is used of it, and is replied to
   replied : (used : ℕ) (reply : Reply) (fields : List (List ℕ)) → r ≡ Answer used reply → 0 < used → used ≤ length part → Taken (f .reader) []
-    → Replied fields (e .table) reply (f .table)
-    → ((p : List ℕ) → Taken (e .reader) p → (rest : List ℕ) → Record (p ++ (part ++ rest)) fields (drop used part ++ rest)) → TurnOn e part r f
+      → Replied fields (e .table) reply (f .table)
+      → ((p : List ℕ) → Taken (e .reader) p → (rest : List ℕ) → Record (p ++ (part ++ rest)) fields (drop used part ++ rest)) → TurnOn e part r f
   -- a fault of the text lies in it
   faulty : (fault : Fault) (used : ℕ) → r ≡ End (unread (refusalOf fault)) → f .reader .status ≡ Failed fault → f .table ≡ e .table → used < length part
-    → ((p : List ℕ) → Taken (e .reader) p → (rest : List ℕ) → FirstFault (p ++ (part ++ rest)) (length p + used) fault) → TurnOn e part r f
+      → ((p : List ℕ) → Taken (e .reader) p → (rest : List ℕ) → FirstFault (p ++ (part ++ rest)) (length p + used) fault) → TurnOn e part r f
 
 -- what the end of the text does
 pub data EndOn (e : Desk) (r : Option Reply) (f : Desk) : Type 0 where
@@ -60,10 +60,10 @@ pub data EndOn (e : Desk) (r : Option Reply) (f : Desk) : Type 0 where
   between : r ≡ None → f .table ≡ e .table → ((p : List ℕ) → Taken (e .reader) p → p ≡ []) → EndOn e r f
   -- it ends a record, which is replied to
   last : (reply : Reply) (fields : List (List ℕ)) → r ≡ Some reply → Replied fields (e .table) reply (f .table)
-    → ((p : List ℕ) → Taken (e .reader) p → Record p fields []) → EndOn e r f
+      → ((p : List ℕ) → Taken (e .reader) p → Record p fields []) → EndOn e r f
   -- it comes too soon
   cut-off : (fault : Fault) → r ≡ Some (unread (refusalOf fault)) → f .reader .status ≡ Failed fault → f .table ≡ e .table
-    → ((p : List ℕ) → Taken (e .reader) p → FirstFault p (length p) fault) → EndOn e r f
+      → ((p : List ℕ) → Taken (e .reader) p → FirstFault p (length p) fault) → EndOn e r f
 
 -- after a fault of the text the desk stays as it is, and replies the same again
 abbrev pub TurnsAs : Status → Desk → List ℕ → Turn → Desk → Type 0

@@ -25,7 +25,7 @@ impl Call {
     }
 
     /// The word of this call.
-    pub fn word(self) -> Word
+    pub(crate) fn word(self) -> Word
         ensures { λ r. ⌜ r ≡ word-of self ⌝ }
     {
         match self {

@@ -33,7 +33,7 @@ pub struct Line {
 
 impl Reply {
     /// The reply to a record that asks for no call.
-    pub fn unread(refusal: Refusal) -> Reply
+    pub(crate) fn unread(refusal: Refusal) -> Reply
         ensures { λ r. ⌜ r ≡ unread refusal ⌝ }
     {
         Reply {
@@ -43,7 +43,7 @@ impl Reply {
     }
 
     /// The reply at a fault of the text.
-    pub fn at_fault(fault: Fault) -> Reply
+    pub(crate) fn at_fault(fault: Fault) -> Reply
         ensures { λ r. ⌜ r ≡ unread (refusalOf fault) ⌝ }
     {
         match fault {
@@ -75,12 +75,22 @@ impl Reply {
 }
 
 // The line of a record of a word and three numbers.
-fn write_line<'a>(word: &'a [u8], refusal: &'a Decimal, first: &'a Decimal, second: &'a Decimal) -> Line
+fn write_line<'a>(
+    word: &'a [u8],
+    refusal: &'a Decimal,
+    first: &'a Decimal,
+    second: &'a Decimal,
+) -> Line
     requires short { ⌜ length (now word) ≤ 8 ⌝ ∗ ⌜ every plainByte (now word) ≡ true ⌝ }
     requires numbers { ⌜ Short (numeral (now refusal)) ⌝ ∗ ⌜ Short (numeral (now first)) ⌝ ∗ ⌜ Short (numeral (now second)) ⌝ }
     ensures { λ r. ⌜ Spells (take (r .len) (r .bytes)) (now (word .entry)) (numeral (now (refusal .entry))) (numeral (now (first .entry))) (numeral (now (second .entry))) ⌝ }
 {
-    let fields: [&[u8]; 4] = [word, refusal.as_bytes(), first.as_bytes(), second.as_bytes()];
+    let fields: [&[u8]; 4] = [
+        word,
+        refusal.as_bytes(),
+        first.as_bytes(),
+        second.as_bytes(),
+    ];
     let mut bytes = [0; LINE_BYTES];
     match write_record(&fields, &mut bytes) {
         Ok(len) => Line { bytes, len },

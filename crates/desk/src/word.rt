@@ -12,7 +12,7 @@ pub enum Word {
 
 impl Word {
     /// The word as it stands in a record.
-    pub fn name(self) -> &'static [u8]
+    pub(crate) fn name(self) -> &'static [u8]
         ensures { λ r. ⌜ now r ≡ nameOf self ⌝ }
     {
         match self {
@@ -21,7 +21,7 @@ impl Word {
     }
 
     /// The word that a field holds, if it holds one.
-    pub fn from_field(field: &[u8]) -> Option<Word>
+    pub(crate) fn from_field(field: &[u8]) -> Option<Word>
         ensures { λ r. ⌜ r ≡ wordIn (now (field .entry)) ⌝ }
     {
         if is_same(field, b"account") {

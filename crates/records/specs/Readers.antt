@@ -70,10 +70,10 @@ pub data ReadOn (e : Reader) (part : List ℕ) (r : Progress) (f : Reader) : Typ
   onward : r .event ≡ More → r .used ≡ length part → f .status ≡ Open → ((p : List ℕ) → Taken e p → Taken f (p ++ part)) → ReadOn e part r f
   -- a record ends with what is used of it
   ended : r .event ≡ Ended → 0 < r .used → r .used ≤ length part → f .status ≡ Complete
-    → ((p : List ℕ) → Taken e p → (rest : List ℕ) → Record (p ++ (part ++ rest)) (fieldsOf (f .fields)) (drop (r .used) part ++ rest)) → ReadOn e part r f
+      → ((p : List ℕ) → Taken e p → (rest : List ℕ) → Record (p ++ (part ++ rest)) (fieldsOf (f .fields)) (drop (r .used) part ++ rest)) → ReadOn e part r f
   -- the first fault of the text lies after what is used of it
   broken : (x : Fault) → r .event ≡ Faulty x → r .used < length part → f .status ≡ Failed x
-    → ((p : List ℕ) → Taken e p → (rest : List ℕ) → FirstFault (p ++ (part ++ rest)) (length p + r .used) x) → ReadOn e part r f
+      → ((p : List ℕ) → Taken e p → (rest : List ℕ) → FirstFault (p ++ (part ++ rest)) (length p + r .used) x) → ReadOn e part r f
 
 -- what the end of a text does
 pub data FinishOn (e : Reader) (r : Event) (f : Reader) : Type 0 where
