@@ -20,7 +20,7 @@ use Rattle.records.specs.declared.action.Mode.the-variants.{Plain, Quoted, Clo
 use Rattle.records.specs.declared.action.Action.{Action}
 use Rattle.records.specs.declared.action.Action.the-variants.{Keep, OpenQuotes, CloseQuotes, Separate, Return, End, Refuse}
 use Rattle.records.proofs.Machine.{run, run-step, run-grows, run-fields, follow, Going, Grown, Outcome, done, bad, going}
-use Rattle.records.proofs.UnderWay.{run-under-way, last-field, begins-under-way}
+use Rattle.records.proofs.UnderWay.{run-under-way, fields-under-way, level-over, begins-under-way}
 use Rattle.records.proofs.Steps.{goes-keep, goes-open, goes-close, goes-separate}
 
 -- a line that a text begins with: a record of any size and its CRLF
@@ -144,14 +144,9 @@ module _ (mode : Mode) (fs : List (List ℕ)) (v : List ℕ) (n b : ℕ) (p : Li
 -- the text may end where a field may
 pub ends-text : (mode : Mode) (fs : List (List ℕ)) (v : List ℕ) (n : ℕ) (p : List ℕ) → (mode ≡ Plain) ⊎ (mode ≡ Closing) → UnderWay mode fs v n p
     → length fs ≤ 39 → n ≤ 1024 → 0 < n → Record p (fs ++ (v ∷ [])) []
-ends-text Plain fs v n p m u few short some =
-    unended (subst (Fields (fs ++ (v ∷ []))) (sym (u .joined ∙ ap (λ x. u .before ++ x) (u .partly .1))) (last-field (u .separated) (plain (u .partly .0))))
-    (record { few = omega (arith, length-push fs v); short = omega (arith, u .counted) }) (omega (arith, u .counted)) refl
-ends-text Quoted fs v n p m u few short some = absurd (grind arith)
-ends-text Closing fs v n p m u few short some =
-    unended (subst (Fields (fs ++ (v ∷ []))) (sym (u .joined ∙ ap (λ x. u .before ++ x) (u .partly .1))) (last-field (u .separated) (quoted (u .partly .0))))
-    (record { few = omega (arith, length-push fs v); short = omega (arith, u .counted) }) (omega (arith, u .counted)) refl
-ends-text Returned fs v n p m u few short some = absurd (grind arith)
+ends-text mode fs v n p m u few short some =
+    unended (fields-under-way mode fs v n p m u)
+    (record { few = omega (arith, length-push fs v); short = omega (arith, u .counted, level-over mode m) }) (omega (arith, u .counted)) refl
 
 -- inside quotes or after a CR no line is complete, with or without a CRLF after the text
 cut-short : (mode : Mode) (fs : List (List ℕ)) (v : List ℕ) (n : ℕ) (fields : List (List ℕ)) (total : ℕ) (tail : List ℕ)

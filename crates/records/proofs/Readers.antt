@@ -29,6 +29,7 @@ use Rattle.records.specs.declared.reader.Event.the-variants.{More, Record as E
 use Rattle.records.proofs.Laid.{length-firstFields}
 use Rattle.records.proofs.Steps.{goes-keep, goes-open, goes-close, goes-separate, goes-return, ends-record}
 use Rattle.records.proofs.Faults.{counts, TooMuch, of-bytes, of-fields, first-bad, first-long, ends-text, cut-off}
+use Rattle.records.proofs.UnderWay.{level-over}
 
 -- the record under way in a reader
 abbrev pub Holds : Reader → List ℕ → Type 0
@@ -169,10 +170,6 @@ pub finishes-failed : (e f : Reader) (x : Fault) → Readied e (Some x) f → Fi
 finishes-failed e f x (s, same) = subst (λ y. FinishesAs y e (Faulty x) f) (sym s) (refl, same)
 
 -- the end of the text
-
-level-over : (m : Mode) → (m ≡ Plain) ⊎ (m ≡ Closing) → ofLineEnd m ≡ 0
-level-over m (inl e) = ap ofLineEnd e
-level-over m (inr e) = ap ofLineEnd e
 
 pub finish-clear : (e : Reader) → e .status ≡ Open → (e .mode ≡ Plain) ⊎ (e .mode ≡ Closing) → e .taken ≡ 0 → FinishOn e More e
 finish-clear e s m z =

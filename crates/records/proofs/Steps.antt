@@ -20,8 +20,7 @@ use Rattle.records.specs.declared.action.Mode.{Mode}
 use Rattle.records.specs.declared.action.Mode.the-variants.{Plain, Quoted, Closing, Returned}
 use Rattle.records.specs.declared.action.Action.{Action}
 use Rattle.records.specs.declared.action.Action.the-variants.{Keep, OpenQuotes, CloseQuotes, Separate, Return, End, Refuse}
-use Rattle.records.proofs.Machine.{run, run-step, run-grows, run-fields, follow, done, bad, going}
-use Rattle.records.proofs.UnderWay.{run-under-way, last-field, begins-under-way}
+use Rattle.records.proofs.UnderWay.{last-field, written-part, level-over}
 
 every-push : (test : ℕ → Bool) (v : List ℕ) (b : ℕ) → every test v ≡ true → test b ≡ true → every test (v ++ (b ∷ [])) ≡ true
 every-push test [] b h t = and-from (test b) true t refl
@@ -59,12 +58,15 @@ closed Quoted fresh b e = (refl, grind (arith, tells))
 closed Closing fresh b e = absurd (grind (arith, tells))
 closed Returned fresh b e = absurd (grind (arith, tells))
 
--- where a field is over, what was taken in of it is a way to write it
+-- a comma and a CR come where a field may be over
+over-mode : (mode : Mode) (fresh : Bool) (b : ℕ) (a : Action) → actionOf mode fresh b ≡ a → (a ≡ Separate) ⊎ (a ≡ Return) → (mode ≡ Plain) ⊎ (mode ≡ Closing)
+over-mode Plain fresh b a e o = inl refl
+over-mode Closing fresh b a e o = inr refl
+over-mode Quoted fresh b a e o = absurd (grind (arith, tells))
+over-mode Returned fresh b a e o = absurd (grind (arith, tells))
+
 over-field : (mode : Mode) (fresh : Bool) (b : ℕ) (v part : List ℕ) (a : Action) → actionOf mode fresh b ≡ a → (a ≡ Separate) ⊎ (a ≡ Return) → Part mode v part → Field v part × (ofLineEnd mode ≡ 0)
-over-field Plain fresh b v part a e o (h, p) = (subst (Field v) (sym p) (plain h), refl)
-over-field Quoted fresh b v part a e o (h, p) = absurd (grind (arith, tells))
-over-field Closing fresh b v part a e o (h, p) = (subst (Field v) (sym p) (quoted h), refl)
-over-field Returned fresh b v part a e o p = absurd (grind (arith, tells))
+over-field mode fresh b v part a e o p = let m = over-mode mode fresh b a e o in (written-part mode v part m p, level-over mode m)
 
 separated-by : (mode : Mode) (fresh : Bool) (b : ℕ) → actionOf mode fresh b ≡ Separate → b ≡ 44
 separated-by Plain fresh b e = grind (arith, tells)

@@ -4,7 +4,7 @@ use native.Mathlib.Omega.{arith}
 use mathlib.Core.Path.{_≡_, refl, sym, ap, subst, _∙_}
 use mathlib.Core.Bool.{Bool, true, false, cond, _&&_}
 use mathlib.Core.List.{List, [], _∷_, _++_}
-use mathlib.Core.Logic.{⊎-elim}
+use mathlib.Core.Logic.{_⊎_, inl, inr}
 use lib.Dec.{eqb}
 use lib.ListN.{length}
 use Rattle.std.proofs.shelf.Lists.{append-assoc, append-nil, length-append, length-push}
@@ -70,43 +70,40 @@ fields-joined {fields = others} {written = w} (next {fields} {before} {field} {w
 pub last-field : {fs : List (List ℕ)} {before v written : List ℕ} → Separated fs before → Field v written → Fields (fs ++ (v ∷ [])) (before ++ written)
 last-field s f = fields-joined s (one f)
 
-pub begins-under-way : (mode : Mode) (fs : List (List ℕ)) (v : List ℕ) (n : ℕ) (p : List ℕ) → UnderWay mode fs v n p
-    → (b : Begins p) × (b .fields ≡ fs ++ (v ∷ [])) × (min (length p) (length (b .written)) ≤ n)
-begins-under-way Plain fs v n p u = (
-  record {
-    fields = fs ++ (v ∷ []);
-    written = p;
-    to-come = 13 ∷ (10 ∷ []);
-    spelled = subst (Fields (fs ++ (v ∷ []))) (sym (u .joined ∙ ap (λ x. u .before ++ x) (u .partly .1))) (last-field (u .separated) (plain (u .partly .0)));
-    joined = refl;
-  },
-  refl,
-  omega (arith, u .counted),
-)
-begins-under-way Quoted fs v n p u = (
-  record {
-    fields = fs ++ (v ∷ []);
-    written = p ++ (34 ∷ []);
-    to-come = 34 ∷ (13 ∷ (10 ∷ []));
-    spelled = subst (Fields (fs ++ (v ∷ [])))
-        (ap (λ x. u .before ++ x) (ap (λ x. x ++ (34 ∷ [])) (sym (u .partly .1))) ∙ sym (append-assoc (u .before) (u .part) (34 ∷ [])) ∙ ap (λ x. x ++ (34 ∷ [])) (sym (u .joined)))
-        (last-field (u .separated) (quoted (u .partly .0)));
-    joined = sym (append-assoc p (34 ∷ []) (13 ∷ (10 ∷ [])));
-  },
-  refl,
-  omega (arith, u .counted),
-)
-begins-under-way Closing fs v n p u = (
-  record {
-    fields = fs ++ (v ∷ []);
-    written = p;
-    to-come = 13 ∷ (10 ∷ []);
-    spelled = subst (Fields (fs ++ (v ∷ []))) (sym (u .joined ∙ ap (λ x. u .before ++ x) (u .partly .1))) (last-field (u .separated) (quoted (u .partly .0)));
-    joined = refl;
-  },
-  refl,
-  omega (arith, u .counted),
-)
+-- where a field may be over, what was taken in of it is a way to write it
+pub written-part : (mode : Mode) (v part : List ℕ) → (mode ≡ Plain) ⊎ (mode ≡ Closing) → Part mode v part → Field v part
+written-part Plain v part m (h, e) = subst (Field v) (sym e) (plain h)
+written-part Closing v part m (h, e) = subst (Field v) (sym e) (quoted h)
+written-part Quoted v part m (h, e) = absurd (grind arith)
+written-part Returned v part m p = absurd (grind arith)
+
+-- nothing of the line end is taken in there
+pub level-over : (m : Mode) → (m ≡ Plain) ⊎ (m ≡ Closing) → ofLineEnd m ≡ 0
+level-over m (inl e) = ap ofLineEnd e
+level-over m (inr e) = ap ofLineEnd e
+
+-- and what was taken in of the record is a way to write its fields
+pub fields-under-way : (mode : Mode) (fs : List (List ℕ)) (v : List ℕ) (n : ℕ) (p : List ℕ) → (mode ≡ Plain) ⊎ (mode ≡ Closing) → UnderWay mode fs v n p → Fields (fs ++ (v ∷ [])) p
+fields-under-way mode fs v n p m u = subst (Fields (fs ++ (v ∷ []))) (sym (u .joined)) (last-field (u .separated) (written-part mode v (u .part) m (u .partly)))
+
+-- a record begun is the beginning of one
+abbrev pub Begun : List (List ℕ) → List ℕ → ℕ → List ℕ → Type 0
+Begun fs v n p = (b : Begins p) × (b .fields ≡ fs ++ (v ∷ [])) × (min (length p) (length (b .written)) ≤ n)
+
+begun-field : (mode : Mode) (fs : List (List ℕ)) (v : List ℕ) (n : ℕ) (p : List ℕ) → (mode ≡ Plain) ⊎ (mode ≡ Closing) → UnderWay mode fs v n p → Begun fs v n p
+begun-field mode fs v n p m u =
+    (record { fields = fs ++ (v ∷ []); written = p; to-come = 13 ∷ (10 ∷ []); spelled = fields-under-way mode fs v n p m u; joined = refl },
+     refl, omega (arith, u .counted, level-over mode m))
+
+pub begins-under-way : (mode : Mode) (fs : List (List ℕ)) (v : List ℕ) (n : ℕ) (p : List ℕ) → UnderWay mode fs v n p → Begun fs v n p
+begins-under-way Plain fs v n p u = begun-field Plain fs v n p (inl refl) u
+begins-under-way Closing fs v n p u = begun-field Closing fs v n p (inr refl) u
+begins-under-way Quoted fs v n p u =
+    (record { fields = fs ++ (v ∷ []); written = p ++ (34 ∷ []); to-come = 34 ∷ (13 ∷ (10 ∷ []));
+        spelled = subst (Fields (fs ++ (v ∷ [])))
+          (ap (λ x. u .before ++ x) (ap (λ x. x ++ (34 ∷ [])) (sym (u .partly .1))) ∙ sym (append-assoc (u .before) (u .part) (34 ∷ [])) ∙ ap (λ x. x ++ (34 ∷ [])) (sym (u .joined)))
+          (last-field (u .separated) (quoted (u .partly .0)));
+        joined = sym (append-assoc p (34 ∷ []) (13 ∷ (10 ∷ []))) }, refl, omega (arith, u .counted))
 begins-under-way Returned fs v n p u =
     let w = u .partly .0 in
     let bytes : p ≡ (u .before ++ w) ++ (13 ∷ []) = u .joined ∙ ap (λ x. u .before ++ x) (u .partly .2) ∙ sym (append-assoc (u .before) w (13 ∷ [])) in (
