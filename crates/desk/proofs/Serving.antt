@@ -1,16 +1,16 @@
 -- From what a reader makes of a part of a text to what the desk replies, and to the replies that a whole text gets.
-use Prim.Native.Nat.{ℕ, _+_, _≤_, _<_}
+use Prim.Native.Nat.{ℕ, _+_}
 use native.Mathlib.Omega.{arith}
 use mathlib.Core.Path.{_≡_, refl, sym, ap, subst, _∙_}
 use mathlib.Core.List.{List, [], _∷_, _++_}
-use lib.ListN.{length, drop}
+use lib.ListN.{length}
 use Rattle.std.proofs.shelf.Lists.{append-assoc, append-nil}
 use Rattle.std.specs.declared.option.Option.{Option}
 use Rattle.std.specs.declared.option.Option.the-variants.{Some, None}
 use Rattle.std.specs.Vec.{listOf}
 use Rattle.ends.specs.declared.table.AccountTable.{AccountTable}
 use Rattle.records.specs.FieldLists.{fieldsOf}
-use Rattle.records.specs.Grammar.{Record, FirstFault}
+use Rattle.records.specs.Grammar.{FirstFault}
 use Rattle.records.specs.Readers.{Taken, TakenAs, Reads, ReadsAs, ReadOn, onward, ended, broken, Finishes, FinishesAs, FinishOn, clear, finished, too-soon}
 use Rattle.records.specs.declared.fault.Fault.{Fault}
 use Rattle.records.specs.declared.reader.Reader.{Reader}

@@ -1,5 +1,4 @@
 // The words that name the calls in a record.
-ghost use lib.Chars.{codes};
 ghost use mathlib.Core.Path.{_≡_};
 ghost use Rattle.std.specs.shelf.Text.{sameBytes};
 ghost use Rattle.desk.specs.Words.{nameOf, wordIn};

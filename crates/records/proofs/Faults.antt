@@ -1,25 +1,23 @@
 -- Where a record under way breaks, and what the end of the text makes of it.
-use Prim.Native.Nat.{ℕ, suc, min, _+_, _≤_, _<_}
+use Prim.Native.Nat.{ℕ, _+_, _≤_, _<_}
 use native.Mathlib.Omega.{arith}
 use mathlib.Core.Path.{_≡_, refl, sym, ap, subst, _∙_}
 use mathlib.Core.Bool.{Bool, true, false}
 use mathlib.Core.List.{List, [], _∷_, _++_}
-use mathlib.Core.Logic.{_⊎_, ⊎-elim, inl, inr}
+use mathlib.Core.Logic.{_⊎_, inl, inr}
 use lib.ListN.{length, take}
 use Rattle.std.proofs.shelf.Lists.{append-assoc, append-nil, length-append, length-push, take-at, take-all}
-use Rattle.std.proofs.shelf.Tests.{true≢false}
 use Rattle.std.proofs.shelf.Ways.{tells}
 use Rattle.records.specs.Actions.{actionOf}
 use Rattle.records.specs.FieldLists.{isEmpty}
-use Rattle.records.specs.Grammar.{Field, plain, quoted, Fields, Within, Record, ended, unended, Begins, Fits, Breaks, FirstFault}
-use Rattle.records.specs.Reading.{Part, ofLineEnd, UnderWay}
-use Rattle.records.specs.declared.fault.Fault.{Fault}
+use Rattle.records.specs.Grammar.{Fields, Within, Record, ended, unended, Begins, Fits, FirstFault}
+use Rattle.records.specs.Reading.{ofLineEnd, UnderWay}
 use Rattle.records.specs.declared.fault.Fault.the-variants.{BadText, TooLong}
 use Rattle.records.specs.declared.action.Mode.{Mode}
 use Rattle.records.specs.declared.action.Mode.the-variants.{Plain, Quoted, Closing, Returned}
 use Rattle.records.specs.declared.action.Action.{Action}
 use Rattle.records.specs.declared.action.Action.the-variants.{Keep, OpenQuotes, CloseQuotes, Separate, Return, End, Refuse}
-use Rattle.records.proofs.Machine.{run, run-step, run-grows, run-fields, follow, Going, Grown, Outcome, done, bad, going}
+use Rattle.records.proofs.Machine.{run, run-step, run-grows, run-fields, follow, done, going}
 use Rattle.records.proofs.UnderWay.{run-under-way, fields-under-way, level-over, begins-under-way}
 use Rattle.records.proofs.Steps.{goes-keep, goes-open, goes-close, goes-separate}
 

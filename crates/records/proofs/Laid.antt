@@ -7,7 +7,7 @@ use mathlib.Core.List.{List, [], _∷_, _++_}
 use mathlib.Core.Logic.{⊎-elim}
 use lib.ListN.{length, getD, set, take, drop}
 use Rattle.std.specs.Holes.{between}
-use Rattle.std.proofs.shelf.Lists.{length-push, getD-set-same, getD-set-other, take-set-le, take-more-set, drop-append-le, length-take-le, getD-append-left, getD-push, drop-all, length-set}
+use Rattle.std.proofs.shelf.Lists.{length-push, getD-set-same, getD-set-other, take-set-le, take-more-set, drop-append-le, length-take-le, getD-append-left, getD-push}
 use Rattle.std.proofs.shelf.Edits.{length-between}
 use Rattle.std.proofs.shelf.Maps.{nth-getD, nth-past}
 use Rattle.std.proofs.shelf.Tests.{cases-lt, eq-eqb, ne-eqb}

@@ -2,12 +2,11 @@
 use Prim.Native.Nat.{ℕ, suc, _+_, _≤_, _<_}
 use native.Mathlib.Omega.{arith}
 use mathlib.Core.Path.{_≡_, refl, sym, ap, subst, _∙_}
-use mathlib.Core.Bool.{Bool, true, false, cond}
+use mathlib.Core.Bool.{Bool, true, false}
 use mathlib.Core.List.{List, [], _∷_, _++_}
 use mathlib.Core.Logic.{⊎-elim}
 use lib.Dec.{eqb}
 use lib.ListN.{length}
-use borrow.Author.Needs.{needs}
 use Rattle.std.proofs.shelf.Lists.{append-assoc, append-nil, length-append, length-push}
 use Rattle.std.proofs.shelf.Tests.{and-parts, cases-bool, eqb-true, cond-true, cond-false}
 use Rattle.std.proofs.shelf.Ways.{tells}

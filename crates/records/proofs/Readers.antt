@@ -4,9 +4,9 @@ use native.Mathlib.Omega.{arith}
 use mathlib.Core.Path.{_≡_, refl, sym, ap, subst, _∙_}
 use mathlib.Core.Bool.{Bool, true}
 use mathlib.Core.List.{List, [], _∷_, _++_}
-use mathlib.Core.Logic.{_⊎_, ⊎-elim, inl, inr}
+use mathlib.Core.Logic.{_⊎_, ⊎-elim}
 use lib.ListN.{length, take, drop, getD}
-use Rattle.std.proofs.shelf.Lists.{append-assoc, append-nil, length-append, length-take-le, take-more, drop-more, take-append-drop, nil-from-length}
+use Rattle.std.proofs.shelf.Lists.{append-assoc, length-append, length-take-le, take-more, drop-more, take-append-drop, nil-from-length}
 use Rattle.std.specs.declared.option.Option.the-variants.{Some, None}
 use Rattle.records.specs.Actions.{actionOf}
 use Rattle.records.specs.FieldLists.{isEmpty, complete, current, fieldsOf}
@@ -16,7 +16,7 @@ use Rattle.records.specs.Readers.{Stands, Counted, CountedField, TakenAs, Take
 use Rattle.records.specs.declared.action.Mode.{Mode}
 use Rattle.records.specs.declared.action.Mode.the-variants.{Plain, Quoted, Closing, Returned}
 use Rattle.records.specs.declared.action.Action.{Action}
-use Rattle.records.specs.declared.action.Action.the-variants.{Keep, OpenQuotes, CloseQuotes, Separate, Return, End, Refuse}
+use Rattle.records.specs.declared.action.Action.the-variants.{Separate, Refuse}
 use Rattle.records.specs.declared.fault.Fault.{Fault}
 use Rattle.records.specs.declared.fault.Fault.the-variants.{BadText, TooLong}
 use Rattle.records.specs.declared.field_list.FieldList.{FieldList}
@@ -27,7 +27,7 @@ use Rattle.records.specs.declared.reader.Progress.{Progress}
 use Rattle.records.specs.declared.reader.Event.{Event}
 use Rattle.records.specs.declared.reader.Event.the-variants.{More, Record as Ended, Fault as Faulty}
 use Rattle.records.proofs.Laid.{length-firstFields}
-use Rattle.records.proofs.Steps.{goes-keep, goes-open, goes-close, goes-separate, goes-return, ends-record}
+use Rattle.records.proofs.Steps.{goes-separate}
 use Rattle.records.proofs.Faults.{counts, TooMuch, of-bytes, of-fields, first-bad, first-long, ends-text, cut-off}
 use Rattle.records.proofs.UnderWay.{level-over}
 

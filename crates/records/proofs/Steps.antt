@@ -1,25 +1,23 @@
 -- What a byte makes of a record under way: the record goes on, ends, or breaks at its first fault.
-use Prim.Native.Nat.{ℕ, suc, min, _+_, _≤_, _<_}
+use Prim.Native.Nat.{ℕ, _+_, _≤_}
 use native.Mathlib.Omega.{arith}
 use mathlib.Core.Path.{_≡_, refl, sym, ap, subst, _∙_}
-use mathlib.Core.Bool.{Bool, true, false, cond, _&&_}
+use mathlib.Core.Bool.{Bool, true, false, cond}
 use mathlib.Core.List.{List, [], _∷_, _++_}
-use mathlib.Core.Logic.{_⊎_, ⊎-elim, inl, inr}
+use mathlib.Core.Logic.{_⊎_, inl, inr}
 use lib.Dec.{eqb}
-use lib.ListN.{length, take}
-use Rattle.std.proofs.shelf.Lists.{append-assoc, append-nil, length-append, length-push, take-at}
-use Rattle.std.proofs.shelf.Tests.{and-from, cond-true, cond-false}
+use lib.ListN.{length}
+use Rattle.std.proofs.shelf.Lists.{append-assoc, append-nil, length-push}
+use Rattle.std.proofs.shelf.Tests.{and-from, cond-false}
 use Rattle.std.proofs.shelf.Ways.{tells}
 use Rattle.records.specs.Actions.{actionOf}
 use Rattle.records.specs.FieldLists.{isEmpty}
-use Rattle.records.specs.Grammar.{plainByte, textByte, every, doubled, inQuotes, Field, plain, quoted, Fields, Within, Record, ended, unended, Begins, Fits, Breaks, FirstFault}
-use Rattle.records.specs.Reading.{Separated, start, next, Part, ofLineEnd, UnderWay}
-use Rattle.records.specs.declared.fault.Fault.{Fault}
-use Rattle.records.specs.declared.fault.Fault.the-variants.{BadText, TooLong}
+use Rattle.records.specs.Grammar.{plainByte, textByte, every, doubled, Field, Record, ended}
+use Rattle.records.specs.Reading.{next, Part, ofLineEnd, UnderWay}
 use Rattle.records.specs.declared.action.Mode.{Mode}
 use Rattle.records.specs.declared.action.Mode.the-variants.{Plain, Quoted, Closing, Returned}
 use Rattle.records.specs.declared.action.Action.{Action}
-use Rattle.records.specs.declared.action.Action.the-variants.{Keep, OpenQuotes, CloseQuotes, Separate, Return, End, Refuse}
+use Rattle.records.specs.declared.action.Action.the-variants.{Keep, OpenQuotes, CloseQuotes, Separate, Return, End}
 use Rattle.records.proofs.UnderWay.{last-field, written-part, level-over}
 
 every-push : (test : ℕ → Bool) (v : List ℕ) (b : ℕ) → every test v ≡ true → test b ≡ true → every test (v ++ (b ∷ [])) ≡ true

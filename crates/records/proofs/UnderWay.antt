@@ -1,23 +1,15 @@
 -- A record under way: how it runs, how it may go on, and how each action of a byte leads to the next one.
-use Prim.Native.Nat.{ℕ, suc, min, _+_, _≤_, _<_}
+use Prim.Native.Nat.{ℕ, min, _+_, _≤_}
 use native.Mathlib.Omega.{arith}
 use mathlib.Core.Path.{_≡_, refl, sym, ap, subst, _∙_}
-use mathlib.Core.Bool.{Bool, true, false, cond, _&&_}
 use mathlib.Core.List.{List, [], _∷_, _++_}
 use mathlib.Core.Logic.{_⊎_, inl, inr}
-use lib.Dec.{eqb}
 use lib.ListN.{length}
-use Rattle.std.proofs.shelf.Lists.{append-assoc, append-nil, length-append, length-push}
-use Rattle.std.proofs.shelf.Tests.{and-parts, and-from, cases-bool, eqb-true, cond-true, cond-false}
-use Rattle.std.proofs.shelf.Ways.{tells}
-use Rattle.records.specs.Actions.{actionOf}
-use Rattle.records.specs.FieldLists.{isEmpty}
-use Rattle.records.specs.Grammar.{plainByte, textByte, every, doubled, inQuotes, Field, plain, quoted, Fields, one, more, Begins, Fits}
+use Rattle.std.proofs.shelf.Lists.{append-assoc, length-append, length-push}
+use Rattle.records.specs.Grammar.{doubled, inQuotes, Field, plain, quoted, Fields, one, more, Begins}
 use Rattle.records.specs.Reading.{Separated, start, next, Part, ofLineEnd, UnderWay}
 use Rattle.records.specs.declared.action.Mode.{Mode}
 use Rattle.records.specs.declared.action.Mode.the-variants.{Plain, Quoted, Closing, Returned}
-use Rattle.records.specs.declared.action.Action.{Action}
-use Rattle.records.specs.declared.action.Action.the-variants.{Keep, OpenQuotes, CloseQuotes, Separate, Return, End, Refuse}
 use Rattle.records.proofs.Machine.{run, run-plain, run-doubled, run-inQuotes, run-comma, run-return}
 
 -- how the run gets here
@@ -91,19 +83,28 @@ abbrev pub Begun : List (List ℕ) → List ℕ → ℕ → List ℕ → Type 0
 Begun fs v n p = (b : Begins p) × (b .fields ≡ fs ++ (v ∷ [])) × (min (length p) (length (b .written)) ≤ n)
 
 begun-field : (mode : Mode) (fs : List (List ℕ)) (v : List ℕ) (n : ℕ) (p : List ℕ) → (mode ≡ Plain) ⊎ (mode ≡ Closing) → UnderWay mode fs v n p → Begun fs v n p
-begun-field mode fs v n p m u =
-    (record { fields = fs ++ (v ∷ []); written = p; to-come = 13 ∷ (10 ∷ []); spelled = fields-under-way mode fs v n p m u; joined = refl },
-     refl, omega (arith, u .counted, level-over mode m))
+begun-field mode fs v n p m u = (
+  record { fields = fs ++ (v ∷ []); written = p; to-come = 13 ∷ (10 ∷ []); spelled = fields-under-way mode fs v n p m u; joined = refl },
+  refl,
+  omega (arith, u .counted, level-over mode m),
+)
 
 pub begins-under-way : (mode : Mode) (fs : List (List ℕ)) (v : List ℕ) (n : ℕ) (p : List ℕ) → UnderWay mode fs v n p → Begun fs v n p
 begins-under-way Plain fs v n p u = begun-field Plain fs v n p (inl refl) u
 begins-under-way Closing fs v n p u = begun-field Closing fs v n p (inr refl) u
-begins-under-way Quoted fs v n p u =
-    (record { fields = fs ++ (v ∷ []); written = p ++ (34 ∷ []); to-come = 34 ∷ (13 ∷ (10 ∷ []));
-        spelled = subst (Fields (fs ++ (v ∷ [])))
-          (ap (λ x. u .before ++ x) (ap (λ x. x ++ (34 ∷ [])) (sym (u .partly .1))) ∙ sym (append-assoc (u .before) (u .part) (34 ∷ [])) ∙ ap (λ x. x ++ (34 ∷ [])) (sym (u .joined)))
-          (last-field (u .separated) (quoted (u .partly .0)));
-        joined = sym (append-assoc p (34 ∷ []) (13 ∷ (10 ∷ []))) }, refl, omega (arith, u .counted))
+begins-under-way Quoted fs v n p u = (
+  record {
+    fields = fs ++ (v ∷ []);
+    written = p ++ (34 ∷ []);
+    to-come = 34 ∷ (13 ∷ (10 ∷ []));
+    spelled = subst (Fields (fs ++ (v ∷ [])))
+        (ap (λ x. u .before ++ x) (ap (λ x. x ++ (34 ∷ [])) (sym (u .partly .1))) ∙ sym (append-assoc (u .before) (u .part) (34 ∷ [])) ∙ ap (λ x. x ++ (34 ∷ [])) (sym (u .joined)))
+        (last-field (u .separated) (quoted (u .partly .0)));
+    joined = sym (append-assoc p (34 ∷ []) (13 ∷ (10 ∷ [])));
+  },
+  refl,
+  omega (arith, u .counted),
+)
 begins-under-way Returned fs v n p u =
     let w = u .partly .0 in
     let bytes : p ≡ (u .before ++ w) ++ (13 ∷ []) = u .joined ∙ ap (λ x. u .before ++ x) (u .partly .2) ∙ sym (append-assoc (u .before) w (13 ∷ [])) in (

@@ -1,17 +1,17 @@
 -- A text has at most one reading.
-use Prim.Native.Nat.{ℕ, suc, min, _+_, _≤_, _<_}
+use Prim.Native.Nat.{ℕ, _+_, _≤_, _<_}
 use native.Mathlib.Omega.{arith}
 use mathlib.Core.Path.{_≡_, refl, sym, ap, subst, _∙_}
 use mathlib.Core.List.{List, [], _∷_, _++_}
-use mathlib.Core.Logic.{_⊎_, ⊎-elim, inl, inr}
+use mathlib.Core.Logic.{_⊎_, ⊎-elim}
 use lib.ListN.{length, take, drop}
-use Rattle.std.proofs.shelf.Lists.{append-assoc, append-nil, length-append, length-take, take-all, take-take, take-append-drop}
+use Rattle.std.proofs.shelf.Lists.{append-assoc, length-append, length-take, take-all, take-take, take-append-drop}
 use Rattle.std.proofs.shelf.Tests.{cases-lt}
-use Rattle.records.specs.Grammar.{Fields, Within, Record, ended, unended, Begins, Fits, Breaks, FirstFault, OneRecord, OneFault}
+use Rattle.records.specs.Grammar.{Fields, ended, unended, Begins, Fits, Breaks, FirstFault, OneRecord, OneFault}
 use Rattle.records.specs.declared.action.Mode.the-variants.{Plain}
 use Rattle.records.specs.declared.fault.Fault.{Fault}
 use Rattle.records.specs.declared.fault.Fault.the-variants.{BadText, TooLong}
-use Rattle.records.proofs.Machine.{run, run-fields, Outcome, done}
+use Rattle.records.proofs.Machine.{run, run-fields, done}
 
 -- two lines that a text begins with are one
 one-line : (text : List ℕ) (fields fields′ : List (List ℕ)) (w w′ rest rest′ : List ℕ) → Fields fields w → Fields fields′ w′

@@ -12,7 +12,7 @@ use Rattle.records.specs.Reading.{UnderWay}
 use Rattle.records.specs.declared.action.Mode.{Mode}
 use Rattle.records.specs.declared.action.Mode.the-variants.{Plain}
 use Rattle.records.specs.declared.fault.Fault.{Fault}
-use Rattle.records.specs.declared.fault.Fault.the-variants.{BadText, TooLong}
+use Rattle.records.specs.declared.fault.Fault.the-variants.{TooLong}
 use Rattle.records.specs.declared.reader.Reader.{Reader}
 use Rattle.records.specs.declared.reader.Status.{Status}
 use Rattle.records.specs.declared.reader.Status.the-variants.{Open, Complete, Failed}

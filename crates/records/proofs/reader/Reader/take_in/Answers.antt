@@ -2,7 +2,7 @@ use mathlib.Core.Path.{refl}
 use mathlib.Core.List.{[], _∷_, _++_}
 use Rattle.records.specs.FieldLists.{complete, current}
 use Rattle.records.specs.declared.action.Mode.the-variants.{Quoted, Closing}
-use Rattle.records.specs.declared.action.Action.the-variants.{Keep, OpenQuotes, CloseQuotes, Separate, Return, End, Refuse}
+use Rattle.records.specs.declared.action.Action.the-variants.{Keep, OpenQuotes, CloseQuotes, Separate, Refuse}
 use Rattle.records.proofs.Readers.{acts-as, open-taken, taken-open, few-complete, takes-counted, takes-separated, takes-refused}
 use Rattle.records.proofs.Steps.{goes-keep, goes-open, goes-close, goes-return, ends-record}
 use Rattle.records.proofs.reader.Reader.take_in.Needs as need
