@@ -47,3 +47,27 @@ fn serve(desk: &mut Desk, chunk: &[u8], output: &mut impl Write) -> io::Result<b
     }
     Ok(true)
 }
+
+#[cfg(test)]
+mod tests {
+    use super::*;
+    use std::test::*;
+
+    #[test]
+    fn a_fault_ends_the_reading(rt: LibcRuntime) -> Result<(), Fail> {
+        let mut desk = Desk::new();
+        let mut output = Vec::new(rt.alloc());
+        let goes_on = serve(&mut desk, b"account,7,1\r\nacc\"ount\r\naccount,7,0\r\n", &mut output)?;
+        check(!goes_on)?;
+        check(output.as_slice() == b"account,0,0,0\r\n?,19,0,0\r\n")
+    }
+
+    #[test]
+    fn a_record_may_straddle_chunks(rt: LibcRuntime) -> Result<(), Fail> {
+        let mut desk = Desk::new();
+        let mut output = Vec::new(rt.alloc());
+        check(serve(&mut desk, b"post,0\r\nacco", &mut output)?)?;
+        check(serve(&mut desk, b"unt,0,1\r\nac", &mut output)?)?;
+        check(output.as_slice() == b"?,21,0,0\r\naccount,3,0,0\r\n")
+    }
+}
