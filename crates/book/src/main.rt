@@ -57,7 +57,11 @@ mod tests {
     fn a_fault_ends_the_reading(rt: LibcRuntime) -> Result<(), Fail> {
         let mut desk = Desk::new();
         let mut output = Vec::new(rt.alloc());
-        let goes_on = serve(&mut desk, b"account,7,1\r\nacc\"ount\r\naccount,7,0\r\n", &mut output)?;
+        let goes_on = serve(
+            &mut desk,
+            b"account,7,1\r\nacc\"ount\r\naccount,7,0\r\n",
+            &mut output,
+        )?;
         check(!goes_on)?;
         check(output.as_slice() == b"account,0,0,0\r\n?,19,0,0\r\n")
     }
