@@ -94,11 +94,19 @@ impl FieldList {
         self.commas >= MAX_COMMAS
     }
 
+    /// The place of the last field, counted from 0.
+    fn last(&self) -> usize
+        ensures few { λ r. ⌜ r ≤ 39 ⌝ }
+        ensures place { λ r. ⌜ length (fieldsOf (now (self .entry))) ≡ r + 1 ⌝ }
+    {
+        self.commas
+    }
+
     /// How many fields there are.
     pub fn count(&self) -> usize
         ensures { λ r. ⌜ r ≡ length (fieldsOf (now (self .entry))) ⌝ }
     {
-        self.commas + 1
+        self.last() + 1
     }
 
     /// The field at a place, counted from 0, if there is one.
