@@ -6,6 +6,8 @@ mod field_list;
 mod limits;
 mod numeral;
 mod reader;
+#[cfg(test)]
+mod tests;
 mod writer;
 
 pub use fault::Fault;
