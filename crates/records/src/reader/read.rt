@@ -110,7 +110,7 @@ impl Reader {
         }
     }
 
-    /// The fields of the record that ended last.
+    /// The fields of the record that ended last, until more of the text is read.
     pub fn fields(&self) -> &FieldList
         ensures { λ r. ⌜ now r ≡ now (self .entry) .fields ⌝ }
     {
