@@ -2,17 +2,18 @@
 use Prim.Native.Nat.{ℕ, _+_, _≤_}
 use native.Mathlib.Omega.{arith}
 use mathlib.Core.Path.{_≡_, refl, sym, ap, subst, _∙_}
-use mathlib.Core.Bool.{true, false, not}
+use mathlib.Core.Bool.{true}
 use mathlib.Core.List.{List, [], _∷_, _++_}
-use lib.Dec.{eqb, ltb}
 use lib.ListN.{length, take, drop}
 use Rattle.std.proofs.shelf.Lists.{length-append, take-at}
-use Rattle.std.proofs.shelf.Tests.{and-parts, and-from, or-from, not-from-true, le-ltb, cond-true, cond-false}
+use Rattle.std.proofs.shelf.Tests.{and-parts, and-from}
 use Rattle.std.proofs.shelf.Ways.{tells}
 use Rattle.std.specs.declared.option.Option.{Option}
 use Rattle.std.specs.declared.option.Option.the-variants.{Some, None}
-use Rattle.records.specs.Grammar.{every, plainByte, textByte, inQuotes, Record}
-use Rattle.records.specs.Writing.{spelled, comma-spelled, line, whole, all-text, too-long, unwritable, Refused, Written}
+use Rattle.records.specs.Grammar.{every, plainByte, textByte, Record}
+use Rattle.records.proofs.Lengths.{length-spelled-plain}
+use Rattle.records.proofs.Reasons.{length-whole, writable}
+use Rattle.records.specs.Writing.{spelled, comma-spelled, line, whole, all-text, unwritable, Refused, Written}
 use Rattle.records.specs.declared.writer.Unwritable.{Unwritable}
 use Rattle.records.specs.Numbers.{decimalOf, Writes}
 use Rattle.measures.specs.Answers.{rowOf}
@@ -32,28 +33,18 @@ plain-text (b ∷ field) h =
     let t : textByte b ≡ true = let q = p .0 in grind (arith, tells) in
     and-from (textByte b) (every textByte field) t (plain-text field (p .1))
 
-length-spelled : (field : List ℕ) → every plainByte field ≡ true → length (spelled field) ≡ length field
-length-spelled field h = ap length (cond-true (every plainByte field) field (inQuotes field) h)
-
-nothing-against : (fields : List (List ℕ)) (room : ℕ) → eqb (length fields) 0 ≡ false → all-text fields ≡ true → too-long fields ≡ false → length (whole fields) ≤ room → unwritable fields room ≡ None
-nothing-against fields room some text short fits =
-    cond-false (eqb (length fields) 0) _ _ some
-    ∙ cond-false (not (all-text fields)) _ _ (not-from-true (all-text fields) text)
-    ∙ cond-false (too-long fields) _ _ short
-    ∙ cond-false (ltb room (length (whole fields))) _ _ (le-ltb room (length (whole fields)) fits)
-
-pub writable : (word refusal first second : List ℕ) → length word ≤ 8 → every plainByte word ≡ true → Short refusal → Short first → Short second
+pub line-writable : (word refusal first second : List ℕ) → length word ≤ 8 → every plainByte word ≡ true → Short refusal → Short first → Short second
     → unwritable (word ∷ (refusal ∷ (first ∷ (second ∷ [])))) 80 ≡ None
-writable w r f s few plain hr hf hs =
+line-writable w r f s few plain hr hf hs =
     let text : all-text (w ∷ (r ∷ (f ∷ (s ∷ [])))) ≡ true =
     and-from _ _ (plain-text w plain) (and-from _ _ (plain-text r (hr .plain)) (and-from _ _ (plain-text f (hf .plain)) (and-from _ _ (plain-text s (hs .plain)) refl))) in
     let short : length (line (w ∷ (r ∷ (f ∷ (s ∷ []))))) ≤ 71 =
     omega (
       arith,
-      length-spelled w plain,
-      length-spelled r (hr .plain),
-      length-spelled f (hf .plain),
-      length-spelled s (hs .plain),
+      length-spelled-plain w plain,
+      length-spelled-plain r (hr .plain),
+      length-spelled-plain f (hf .plain),
+      length-spelled-plain s (hs .plain),
       hr .few,
       hf .few,
       hs .few,
@@ -62,8 +53,7 @@ writable w r f s few plain hr hf hs =
       length-append (comma-spelled f) (comma-spelled s ++ []),
       length-append (comma-spelled s) [],
     ) in
-    let whole-short : length (whole (w ∷ (r ∷ (f ∷ (s ∷ []))))) ≤ 73 = omega (arith, length-append (line (w ∷ (r ∷ (f ∷ (s ∷ []))))) (13 ∷ (10 ∷ []))) in
-    nothing-against (w ∷ (r ∷ (f ∷ (s ∷ [])))) 80 refl text (or-from (ltb 40 4) (ltb 1024 (length (line (w ∷ (r ∷ (f ∷ (s ∷ []))))))) refl (le-ltb 1024 (length (line (w ∷ (r ∷ (f ∷ (s ∷ [])))))) (omega arith))) (omega arith)
+    writable (w ∷ (r ∷ (f ∷ (s ∷ [])))) 80 (omega arith) text (omega arith) (omega arith) (omega (arith, length-whole (w ∷ (r ∷ (f ∷ (s ∷ []))))))
 
 none-some : {A : Type 0} {o : Option A} {x : A} → o ≡ None → o ≡ Some x → _≡_ {A = ℕ} 0 1
 none-some none some = cc
@@ -77,7 +67,7 @@ module _ (word refusal first second refusal′ first′ second′ : List ℕ) (s
   pub never-refused : (before after : List ℕ) (why : Unwritable) → length before ≡ 80 → length word ≤ 8 → every plainByte word ≡ true → Short refusal → Short first → Short second
       → Refused (word ∷ (refusal′ ∷ (first′ ∷ (second′ ∷ [])))) before why after → ⊥
   never-refused before after why room few plain hr hf hs r =
-      let none : unwritable (word ∷ (refusal ∷ (first ∷ (second ∷ [])))) 80 ≡ None = writable word refusal first second few plain hr hf hs in
+      let none : unwritable (word ∷ (refusal ∷ (first ∷ (second ∷ [])))) 80 ≡ None = line-writable word refusal first second few plain hr hf hs in
       let some : unwritable (word ∷ (refusal ∷ (first ∷ (second ∷ [])))) 80 ≡ Some why =
       ap (λ x. unwritable x 80) (sym same-fields) ∙ ap (unwritable (word ∷ (refusal′ ∷ (first′ ∷ (second′ ∷ []))))) (sym room) ∙ r .reason in
       let z : _≡_ {A = ℕ} 0 1 = none-some none some in omega arith

@@ -24,11 +24,12 @@ pub data Outcome : Type 0 where
   done : List (List ℕ) → ℕ → List ℕ → Outcome
   bad : Outcome
 
-abbrev pub Going : Type 0
-Going = Mode → List (List ℕ) → List ℕ → ℕ → Outcome
+-- how a run goes on from a state
+abbrev pub Continuation : Type 0
+Continuation = Mode → List (List ℕ) → List ℕ → ℕ → Outcome
 
 -- what an action makes of the state, and how the run goes on from there
-abbrev pub follow : Action → ℕ → List (List ℕ) → List ℕ → ℕ → Going → List ℕ → Outcome
+abbrev pub follow : Action → ℕ → List (List ℕ) → List ℕ → ℕ → Continuation → List ℕ → Outcome
 follow (Keep mode) b fs v n go rest = go mode fs (v ++ (b ∷ [])) (n + 1)
 follow OpenQuotes b fs v n go rest = go Quoted fs v (n + 1)
 follow CloseQuotes b fs v n go rest = go Closing fs v (n + 1)
@@ -135,7 +136,7 @@ pub record Grown (fs : List (List ℕ)) (n : ℕ) (fields : List (List ℕ)) (to
   pub longer : length fs < length fields
   pub counts : n ≤ total
 
-grown-follow : (a : Action) (b : ℕ) (fs : List (List ℕ)) (v : List ℕ) (n : ℕ) (go : Going) (rest : List ℕ) (fields : List (List ℕ)) (total : ℕ) (tail : List ℕ)
+grown-follow : (a : Action) (b : ℕ) (fs : List (List ℕ)) (v : List ℕ) (n : ℕ) (go : Continuation) (rest : List ℕ) (fields : List (List ℕ)) (total : ℕ) (tail : List ℕ)
     → ((mode : Mode) (fs : List (List ℕ)) (v : List ℕ) (n : ℕ) → go mode fs v n ≡ done fields total tail → Grown fs n fields total)
     → follow a b fs v n go rest ≡ done fields total tail → Grown fs n fields total
 grown-follow (Keep mode) b fs v n go rest fields total tail grow e = let g = grow mode fs (v ++ (b ∷ [])) (n + 1) e in record { longer = g .longer; counts = omega (arith, g .counts) }

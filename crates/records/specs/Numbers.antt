@@ -16,8 +16,7 @@ isDigit b = leb 48 b && leb b 57
 
 -- every byte is a digit
 abbrev pub allDigits : List ℕ → Bool
-allDigits [] = true
-allDigits (b ∷ bs) = isDigit b && allDigits bs
+allDigits bs = every isDigit bs
 
 -- there is a digit, and there is nothing else
 abbrev pub isNumeral : List ℕ → Bool
