@@ -1,4 +1,6 @@
 // Reads records from standard input to its end, and writes an answer record for each to standard output.
+#![tactic(auto)]
+
 use desk::{Desk, Turn};
 use std::io;
 use std::io::{BufWriter, Read, Write};

@@ -1,4 +1,2 @@
 pub mod Lines
 pub mod Serving
-pub mod Journalling
-pub mod Reading

@@ -15,7 +15,7 @@ use Rattle.desk.specs.Lines.{Short, Spells}
 use Rattle.desk.specs.Replies.{word_shown, fields_shown, Shows}
 use Rattle.desk.specs.declared.reply.Reply.{Reply}
 use Rattle.desk.specs.declared.word.Word.{Word}
-use Rattle.desk.specs.declared.word.Word.TheVariants.{Account, Enrol, Notice, Basic, Form, Enter}
+use Rattle.desk.specs.declared.word.Word.TheVariants.{Account}
 
 -- a plain field is text
 plain_text : (field : List ℕ) → every plain_byte field ≡ true → every text_byte field ≡ true
@@ -76,20 +76,10 @@ module _ (word refusal first second refusal' first' second' : List ℕ) (same_re
 pub word_few : (word : Option Word) (bytes : List ℕ) → bytes ≡ word_shown word → length bytes ≤ 8
 word_few None bytes e = omega (arith, ap length e)
 word_few (Some Account) bytes e = omega (arith, ap length e)
-word_few (Some Enrol) bytes e = omega (arith, ap length e)
-word_few (Some Notice) bytes e = omega (arith, ap length e)
-word_few (Some Basic) bytes e = omega (arith, ap length e)
-word_few (Some Form) bytes e = omega (arith, ap length e)
-word_few (Some Enter) bytes e = omega (arith, ap length e)
 
 pub word_plain : (word : Option Word) (bytes : List ℕ) → bytes ≡ word_shown word → every plain_byte bytes ≡ true
 word_plain None bytes e = ap (every plain_byte) e
 word_plain (Some Account) bytes e = ap (every plain_byte) e
-word_plain (Some Enrol) bytes e = ap (every plain_byte) e
-word_plain (Some Notice) bytes e = ap (every plain_byte) e
-word_plain (Some Basic) bytes e = ap (every plain_byte) e
-word_plain (Some Form) bytes e = ap (every plain_byte) e
-word_plain (Some Enter) bytes e = ap (every plain_byte) e
 
 pub short_numeral : (z : ℤ) (bytes : List ℕ) → Writes z bytes → Short bytes
 short_numeral z bytes w = record { few = w.most; plain = w.plain }

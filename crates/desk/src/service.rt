@@ -1,17 +1,13 @@
 // The desk: it takes in a text of records part by part, carries out what each asks for, and replies to it.
 ghost use Rattle.std.specs.Prelude.{◌≡◌, [], length};
 ghost use Rattle.ends.specs.Tables.{listed};
-ghost use Rattle.journal.specs.Law.{Lifelong};
-ghost use Rattle.journal.specs.Worlds.{ReachedAtOnce};
-ghost use Rattle.ledger.specs.Calls.{Opened};
 ghost use Rattle.records.specs.FieldLists.{fields_of};
 ghost use Rattle.records.specs.Readers.{Taken};
-ghost use Rattle.desk.specs.Journalling.{Journalled};
 ghost use Rattle.desk.specs.Serving.{Concludes, Continues, Ends, Replied, Turns, Within};
 
 use crate::call::Call;
 use crate::reply::Reply;
-use crate::settlement::Settlement;
+use ends::AccountTable;
 use measures::Refusal;
 use records::{Event, Reader};
 
@@ -26,26 +22,21 @@ pub enum Turn {
     End(Reply),
 }
 
-/// Reads records, and carries out their calls on a book and an account table.
+/// Reads records, and carries out their calls on an account table.
 #[derive(Drop)]
 pub struct Desk {
     reader: Reader,
-    settlement: Settlement,
+    table: AccountTable,
 }
 
 impl Desk {
-    /// A desk at the start of a text, with a book that is newly opened and a table with no account.
+    /// A desk at the start of a text, with no account.
     pub fn new() -> Desk
-        ensures text { Taken result.reader [] }
-        ensures table { listed result.settlement.table ≡ [] }
-        ensures opened { Opened result.settlement.book }
-        ensures book { ReachedAtOnce result.settlement.book }
-        ensures page { Journalled result.settlement }
-        ensures law { Lifelong }
+        ensures { (Taken result.reader []) × (listed result.table ≡ []) }
     {
         Desk {
             reader: Reader::new(),
-            settlement: Settlement::new(),
+            table: AccountTable::new(),
         }
     }
 
@@ -81,12 +72,12 @@ impl Desk {
     // Replies to the record that the reader holds.
     fn reply(&mut self) -> Reply
         ensures reader { self.new.reader ≡ self.old.reader }
-        ensures replied { Replied (fields_of self.old.reader.fields) self.old.settlement result self.new.settlement }
+        ensures replied { Replied (fields_of self.old.reader.fields) self.old.table result self.new.table }
     {
         match Call::from_fields(self.reader.fields()) {
             Some(call) => Reply {
                 word: Some(call.word()),
-                answer: call.carry_out(&mut self.settlement),
+                answer: call.carry_out(&mut self.table),
             },
             None => Reply::unread(Refusal::NoCall),
         }

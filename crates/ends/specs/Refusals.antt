@@ -5,17 +5,16 @@ use Rattle.measures.specs.declared.refusal.Refusal.{Refusal}
 use Rattle.measures.specs.declared.refusal.Refusal.TheVariants.{Unlisted, OutOfRange, TableFull}
 use Rattle.ends.specs.declared.account.Account.{Account}
 use Rattle.ends.specs.Accounts.{is_listed}
-use Rattle.measures.specs.Measures.{is_account}
-use Rattle.ends.specs.Limits.{most_accounts}
+use Rattle.ends.specs.Limits.{in_range, most_accounts}
 
 -- the first reason against opening account n: no account number, or 256 others are listed
 abbrev pub against_opening : List Account → ℕ → Option Refusal
 against_opening accounts n =
-    unless (is_account n) OutOfRange (
+    unless (in_range n) OutOfRange (
     unless (is_listed accounts n || nat_lt (length accounts) most_accounts) TableFull None)
 
 -- the first reason against closing account n: no account number, or not listed
 abbrev pub against_closing : List Account → ℕ → Option Refusal
 against_closing accounts n =
-    unless (is_account n) OutOfRange (
+    unless (in_range n) OutOfRange (
     unless (is_listed accounts n) Unlisted None)

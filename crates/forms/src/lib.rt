@@ -1,4 +1,6 @@
 // The allocation form: how a whole is shared out to accounts.
+#![tactic(auto)]
+
 mod allocation;
 mod line;
 mod naming;

@@ -1,4 +1,6 @@
 // Opening a book, and what is then known of its whole life.
+#![tactic(auto)]
+
 ghost use Rattle.journal.specs.Law.{Lifelong};
 ghost use Rattle.journal.specs.Worlds.{ReachedAtOnce};
 ghost use Rattle.ledger.specs.Calls.{Opened};

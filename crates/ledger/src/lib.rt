@@ -1,4 +1,6 @@
 // The book: its parts together, and the calls and queries on it.
+#![tactic(auto)]
+
 mod book;
 
 pub use book::Book;

@@ -32,10 +32,18 @@ done_or (Ok x) = Done
 done_or (Err refusal) = Refused refusal
 
 -- a reason unless the test holds, and then the next reason, if there is one
-abbrev pub unless : {R : Type 0} → Bool → R → Option R → Option R
+abbrev pub unless : Bool → Refusal → Option Refusal → Option Refusal
 unless test reason next = cond test next (Some reason)
 
 -- a call is carried out if there is no reason against it; else it is refused for the first, and what it was made on is as it was
-abbrev pub Answered : {A R S : Type 0} → Option R → Result A R → S → S → (A → Type 0) → Type 0
+abbrev pub Answered : {A S : Type 0} → Option Refusal → Result A Refusal → S → S → (A → Type 0) → Type 0
 Answered reason (Ok x) before after carried_out = (reason ≡ None) × carried_out x
 Answered reason (Err e) before after carried_out = (reason ≡ Some e) × (after ≡ before)
+
+-- the same chain and the same meaning for reasons of any type
+abbrev pub unless_of : {R : Type 0} → Bool → R → Option R → Option R
+unless_of test reason next = cond test next (Some reason)
+
+abbrev pub AnsweredBy : {A R S : Type 0} → Option R → Result A R → S → S → (A → Type 0) → Type 0
+AnsweredBy reason (Ok x) before after carried_out = (reason ≡ None) × carried_out x
+AnsweredBy reason (Err e) before after carried_out = (reason ≡ Some e) × (after ≡ before)

@@ -1,4 +1,6 @@
 // What the book counts in, the numbers that name things, and how a call answers.
+#![tactic(auto)]
+
 mod answer;
 mod measure;
 mod number;

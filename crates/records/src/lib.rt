@@ -1,4 +1,6 @@
 // Comma-separated records (RFC 4180) in fixed memory: reading, writing, and the numbers in their fields.
+#![tactic(auto)]
+
 mod action;
 mod bytes;
 mod fault;

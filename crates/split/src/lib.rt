@@ -1,4 +1,6 @@
 // Splits an amount of cents into whole-cent shares by weights, so that no cent is lost and none is made.
+#![tactic(auto)]
+
 ghost use Rattle.std.specs.Prelude.{map, OnOk};
 ghost use Rattle.split.specs.Fairness.{Close, NoneForNone, Whole};
 ghost use Rattle.split.specs.Shares.{amounts};

@@ -1,4 +1,6 @@
 // What the tariff says of a unit: its terms, its standing, and the rates of its class.
+#![tactic(auto)]
+
 mod rates;
 mod standing;
 mod terms;

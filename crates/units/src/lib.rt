@@ -1,4 +1,6 @@
 // The units of a book, each with its terms, its standing and its forms.
+#![tactic(auto)]
+
 mod part;
 mod unit;
 mod waiting;

@@ -96,10 +96,9 @@ impl FieldList {
         self.commas
     }
 
-    /// How many fields there are: from 1 to 40.
+    /// How many fields there are.
     pub fn count(&self) -> usize
-        ensures number { result ≡ length (fields_of self.now) }
-        ensures range { (1 ≤ result) × (result ≤ 40) }
+        ensures { result ≡ length (fields_of self.now) }
     {
         self.last() + 1
     }

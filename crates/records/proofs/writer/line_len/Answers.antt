@@ -5,27 +5,27 @@ use Rattle.records.proofs.Lengths.{allowed_past, allowed_within, past_from_allow
 use Rattle.records.proofs.Lines.{length_line, length_others_more, others_end}
 use Rattle.records.proofs.writer.line_len.Goals as goal
 
-pub returns-in-err-n : goal.returns-in-err-n
-returns-in-err-n c =
-    let past = past_from_allowed _ c.in-err-n.ensures in
-    c.from-residual.ensures ∙ allowed_past _ (omega (arith, length_line c.args.first.now c.args.rest.now))
+pub returns-in_err-n : goal.returns-in_err-n
+returns-in_err-n c =
+    let past = past_from_allowed _ c.in_err-n.ensures in
+    c.from_residual.ensures ∙ allowed_past _ (omega (arith, length_line c.args.first.now c.args.rest.now))
 
 pub loop-field-init : goal.loop-field-init
 loop-field-init c =
-    let same = same_from_allowed _ _ c.in-ok-n.ensures in
-    let within = within_from_allowed _ _ c.in-ok-n.ensures in
+    let same = same_from_allowed _ _ c.in_ok-n.ensures in
+    let within = within_from_allowed _ _ c.in_ok-n.ensures in
     (omega arith, omega (arith, length_line c.args.first.now c.args.rest.now))
 
-pub returns-in-err-n-2 : goal.returns-in-err-n-2
-returns-in-err-n-2 c =
-    let past = past_from_allowed _ c.in-err-n-2.ensures in
+pub returns-in_err-n-2 : goal.returns-in_err-n-2
+returns-in_err-n-2 c =
+    let past = past_from_allowed _ c.in_err-n-2.ensures in
     let more = length_others_more c.args.rest.now c.loop-field.field-index c.loop-field-test.true in
-    c.from-residual-in-err-n-2.ensures ∙ allowed_past _ (omega arith)
+    c.from_residual-in_err-n-2.ensures ∙ allowed_past _ (omega arith)
 
 pub loop-field-preserved : goal.loop-field-preserved
 loop-field-preserved c =
-    let same = same_from_allowed _ _ c.in-ok-n-2.ensures in
-    let within = within_from_allowed _ _ c.in-ok-n-2.ensures in
+    let same = same_from_allowed _ _ c.in_ok-n-2.ensures in
+    let within = within_from_allowed _ _ c.in_ok-n-2.ensures in
     let more = length_others_more c.args.rest.now c.loop-field.field-index c.loop-field-test.true in
     (omega arith, omega arith)
 

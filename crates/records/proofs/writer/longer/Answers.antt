@@ -3,5 +3,5 @@ use Rattle.std.proofs.Common.{arith}
 use Rattle.records.proofs.Lengths.{length_le_spelled, allowed_past}
 use Rattle.records.proofs.writer.longer.Goals as goal
 
-pub returns-then-field-gt-MAX-BYTES : goal.returns-then-field-gt-MAX-BYTES
-returns-then-field-gt-MAX-BYTES c = allowed_past _ (omega (arith, length_le_spelled c.args.field.now))
+pub returns-then-field-gt-MAX_BYTES : goal.returns-then-field-gt-MAX_BYTES
+returns-then-field-gt-MAX_BYTES c = allowed_past _ (omega (arith, length_le_spelled c.args.field.now))

@@ -12,14 +12,14 @@ loop-b-init c =
     let next = c.put-n.ensures.next_place in
     (omega (arith, length-append (doubled c.args.field.now) (34 ∷ [])), refl)
 
-pub put-doubled-n-requires : goal.put-doubled-n-requires
-put-doubled-n-requires c = omega (arith, length_doubled_more c.args.field.now c.loop-b.b-index c.loop-b-test.true)
+pub put_doubled-n-requires : goal.put_doubled-n-requires
+put_doubled-n-requires c = omega (arith, length_doubled_more c.args.field.now c.loop-b.b-index c.loop-b-test.true)
 
 pub loop-b-preserved : goal.loop-b-preserved
 loop-b-preserved c =
     let field = c.args.field.now in
     let i = c.loop-b.b-index in
-    let put = c.put-doubled-n.ensures in
+    let put = c.put_doubled-n.ensures in
     let next = put.next_place in
     let more = doubled_more field i c.loop-b-test.true in
     let onward =

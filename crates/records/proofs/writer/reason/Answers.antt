@@ -7,16 +7,16 @@ use Rattle.records.proofs.Lengths.{same_from_allowed, within_from_allowed}
 use Rattle.records.proofs.Reasons.{length_whole, too_many, no_room, writable}
 use Rattle.records.proofs.writer.reason.Goals as goal
 
-pub returns-then-rest-ge-MAX-FIELDS : goal.returns-then-rest-ge-MAX-FIELDS
-returns-then-rest-ge-MAX-FIELDS c =
+pub returns-then-rest-ge-MAX_FIELDS : goal.returns-then-rest-ge-MAX_FIELDS
+returns-then-rest-ge-MAX_FIELDS c =
     let fields = c.args.first.now ∷ bytes_of c.args.rest.now in
-    let text : all_text fields ≡ true = and_from _ _ (sym c.if-not-is-text.ensures) (sym c.if-not-are-text.ensures) in
+    let text : all_text fields ≡ true = and_from _ _ (sym c.if-not-is_text.ensures) (sym c.if-not-are_text.ensures) in
     sym (too_many fields c.args.room (omega arith) text (omega (arith, length-map c.args.rest.now (λ field. field.now))))
 
 pub returns-then-room-n : goal.returns-then-room-n
 returns-then-room-n c =
     let fields = c.args.first.now ∷ bytes_of c.args.rest.now in
-    let text : all_text fields ≡ true = and_from _ _ (sym c.if-not-is-text.ensures) (sym c.if-not-are-text.ensures) in
+    let text : all_text fields ≡ true = and_from _ _ (sym c.if-not-is_text.ensures) (sym c.if-not-are_text.ensures) in
     let same = same_from_allowed _ _ c.in-Some.ensures in
     let within : length (line fields) ≤ 1024 = within_from_allowed _ _ c.in-Some.ensures in
     let long = length_whole fields in
@@ -25,7 +25,7 @@ returns-then-room-n c =
 pub returns-else-room-n : goal.returns-else-room-n
 returns-else-room-n c =
     let fields = c.args.first.now ∷ bytes_of c.args.rest.now in
-    let text : all_text fields ≡ true = and_from _ _ (sym c.if-not-is-text.ensures) (sym c.if-not-are-text.ensures) in
+    let text : all_text fields ≡ true = and_from _ _ (sym c.if-not-is_text.ensures) (sym c.if-not-are_text.ensures) in
     let same = same_from_allowed _ _ c.in-Some.ensures in
     let within : length (line fields) ≤ 1024 = within_from_allowed _ _ c.in-Some.ensures in
     let long = length_whole fields in

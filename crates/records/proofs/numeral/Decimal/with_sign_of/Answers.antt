@@ -6,8 +6,8 @@ use Rattle.records.proofs.Numbers.{room_for_sign, decimal_of_natural, decimal_of
 use Rattle.records.proofs.numeral.Decimal.with_sign_of.Goals as goal
 use Rattle.records.proofs.numeral.Decimal.with_sign_of.Goals.{then-value-lt0, else-value-lt0}
 
-pub overflow-sub-self : goal.overflow-sub-self
-overflow-sub-self c =
+pub overflow_sub-self : goal.overflow_sub-self
+overflow_sub-self c =
     let twenty : length c.args.self.bytes ≡ 20 = search rules in
     room_for_sign c.args.value c.args.self.bytes c.args.self.start c.ranges.value twenty c.requires
 

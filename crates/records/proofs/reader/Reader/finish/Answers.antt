@@ -5,4 +5,4 @@ pub returns-in-Some : goal.returns-in-Some
 returns-in-Some c = finishes_failed c.args.self.now c.ready.new.self c.in-Some.fault c.in-Some.ensures
 
 pub returns : goal.returns
-returns c = finishes_ready c.args.self.now c.ready.new.self c.finish-open.new.self c.finish-open.result c.in-default.ensures c.finish-open.ensures
+returns c = finishes_ready c.args.self.now c.ready.new.self c.finish_open.new.self c.finish_open.result c.in_default.ensures c.finish_open.ensures

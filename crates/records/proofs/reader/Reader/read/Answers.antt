@@ -5,4 +5,4 @@ pub returns-in-Some : goal.returns-in-Some
 returns-in-Some c = reads_failed c.args.self.now c.ready.new.self c.args.part.now c.in-Some.fault c.in-Some.ensures
 
 pub returns : goal.returns
-returns c = reads_ready c.args.self.now c.ready.new.self c.read-on.new.self c.args.part.now c.read-on.result c.in-default.ensures c.read-on.ensures
+returns c = reads_ready c.args.self.now c.ready.new.self c.read_on.new.self c.args.part.now c.read_on.result c.in_default.ensures c.read_on.ensures
