@@ -15,12 +15,12 @@ pub(crate) fn fill<T: Weighted>(
     entries: &[T],
     shares: &mut [SignedCents],
 )
-    requires possible { against_splitting amount.0 (map weighs entries.now) (length shares.old) ≡ None }
-    requires totalled { total ≡ sum (map weighs entries.now) }
-    ensures split { amounts shares.new ≡ shares_of amount.0 (map weighs entries.now) }
+    requires possible { against_splitting amount.0 (map T.weighs entries.now) (length shares.old) ≡ None }
+    requires totalled { total ≡ sum (map T.weighs entries.now) }
+    ensures split { amounts shares.new ≡ shares_of amount.0 (map T.weighs entries.now) }
     ensures whole { Whole amount.0 (amounts shares.new) }
-    ensures close { Close amount.0 (map weighs entries.now) (amounts shares.new) }
-    ensures none { NoneForNone (map weighs entries.now) (amounts shares.new) }
+    ensures close { Close amount.0 (map T.weighs entries.now) (amounts shares.new) }
+    ensures none { NoneForNone (map T.weighs entries.now) (amounts shares.new) }
 {
     let mut before = 0;
     for i in 0..entries.len() {
@@ -32,8 +32,8 @@ pub(crate) fn fill<T: Weighted>(
 
 // The running total with the weight of one entry more.
 fn total_with<T: Weighted>(before: u64, entry: &T) -> u64
-    requires { before + weighs entry.now ≤ highest_total }
-    ensures { result ≡ before + weighs entry.now }
+    requires { before + T.weighs entry.now ≤ highest_total }
+    ensures { result ≡ before + T.weighs entry.now }
 {
     before + entry.weight()
 }

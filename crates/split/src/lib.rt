@@ -26,10 +26,10 @@ pub fn split<T: Weighted>(
     entries: &[T],
     shares: &mut [SignedCents],
 ) -> Result<(), Unsplit>
-    ensures split { Splits amount.0 (map weighs entries.now) result shares.old shares.new }
+    ensures split { Splits amount.0 (map T.weighs entries.now) result shares.old shares.new }
     ensures whole { OnOk result (Whole amount.0 (amounts shares.new)) }
-    ensures close { OnOk result (Close amount.0 (map weighs entries.now) (amounts shares.new)) }
-    ensures none { OnOk result (NoneForNone (map weighs entries.now) (amounts shares.new)) }
+    ensures close { OnOk result (Close amount.0 (map T.weighs entries.now) (amounts shares.new)) }
+    ensures none { OnOk result (NoneForNone (map T.weighs entries.now) (amounts shares.new)) }
 {
     let total = reason::total_to_split(amount, entries, shares.len())?;
     fill::fill(amount, total, entries, shares);

@@ -28,7 +28,7 @@ pub(crate) fn total_to_split<T: Weighted>(
     entries: &[T],
     places: usize,
 ) -> Result<u64, Unsplit>
-    ensures { Allows amount.0 (map weighs entries.now) places result }
+    ensures { Allows amount.0 (map T.weighs entries.now) places result }
 {
     if amount.0.unsigned_abs() > LARGEST_AMOUNT {
         return Err(Unsplit::AmountTooLarge);
@@ -44,7 +44,7 @@ pub(crate) fn total_to_split<T: Weighted>(
 
 // The total of the weights, if it is one that a split may have. The sum stops where it would pass the highest.
 fn total_weight<T: Weighted>(entries: &[T]) -> Option<u64>
-    ensures { result ≡ allowed_total (map weighs entries.now) }
+    ensures { result ≡ allowed_total (map T.weighs entries.now) }
 {
     let mut total = 0;
     for entry in entries {
@@ -62,7 +62,7 @@ fn total_weight<T: Weighted>(entries: &[T]) -> Option<u64>
 
 // Whether there are as many places as entries.
 fn is_place_for_each<T: Weighted>(entries: &[T], places: usize) -> bool
-    ensures { result ≡ (places == length (map weighs entries.now)) }
+    ensures { result ≡ (places == length (map T.weighs entries.now)) }
 {
     places == entries.len()
 }

@@ -13,8 +13,8 @@ use Rattle.split.proofs.fill.fill.Goals as goal
 pub loop-i-init : goal.loop-i-init
 loop-i-init g c = (omega (arith, c.requires.totalled, sum-map g.T.Weighted.weighs c.args.entries.now), refl)
 
-pub total-with-reached-requires : goal.total-with-reached-requires
-total-with-reached-requires g c =
+pub total_with-reached-requires : goal.total_with-reached-requires
+total_with-reached-requires g c =
     let weighs = g.T.Weighted.weighs in
     let xs = c.args.entries.now in
     let can = possible c.args.amount.0 (map weighs xs) (length c.args.shares.now) c.requires.possible in
@@ -31,8 +31,8 @@ share-requires g c =
       size = can.size;
       some = omega (arith, can.some, c.requires.totalled);
       bounded = omega (arith, can.bounded, c.requires.totalled);
-      onward = omega (arith, c.total-with-reached.ensures);
-      within = omega (arith, here, c.loop-i.invariant.0, c.total-with-reached.ensures);
+      onward = omega (arith, c.total_with-reached.ensures);
+      within = omega (arith, here, c.loop-i.invariant.0, c.total_with-reached.ensures);
     }
 
 -- there is a place for the share
@@ -43,8 +43,8 @@ room g c =
     let can = possible c.args.amount.0 (map weighs xs) (length c.args.shares.now) c.requires.possible in
     omega (arith, can.each, length-map xs weighs, c.loop-i.auto.shares, c.loop-i-test.true)
 
-pub offset-bounds-shares-i : goal.offset-bounds-shares-i
-offset-bounds-shares-i g c = let within : c.loop-i.i < length c.loop-i.shares = room g c in search rules
+pub offset_bounds-shares-i : goal.offset_bounds-shares-i
+offset_bounds-shares-i g c = let within : c.loop-i.i < length c.loop-i.shares = room g c in search rules
 
 pub bounds-shares-i : goal.bounds-shares-i
 bounds-shares-i g c = room g c
@@ -55,10 +55,10 @@ loop-i-preserved g c =
     let xs = c.args.entries.now in
     let x = c.index-entries-i.result in
     let within = c.loop-i-test.true in
-    let reached = c.total-with-reached.ensures in
+    let reached = c.total_with-reached.ensures in
     let here = sum_here weighs xs c.loop-i.i x within (search rules) in (
       omega (arith, here, reached, c.loop-i.invariant.0),
-      filled_more weighs c.args.amount.0 c.args.total xs c.loop-i.shares c.loop-i.i c.loop-i.before c.loop-i.invariant.1 x c.share.result c.total-with-reached.result within (room g c) (search rules) reached c.share.ensures,
+      filled_more weighs c.args.amount.0 c.args.total xs c.loop-i.shares c.loop-i.i c.loop-i.before c.loop-i.invariant.1 x c.share.result c.total_with-reached.result within (room g c) (search rules) reached c.share.ensures,
     )
 
 pub returns : goal.returns

@@ -3,13 +3,13 @@ use Rattle.std.proofs.Common.{arith}
 use Rattle.split.proofs.Parts.{divided_first, part_rises, part_within}
 use Rattle.split.proofs.share.part.Goals as goal
 
-pub overflow-mul-result : goal.overflow-mul-result
-overflow-mul-result c =
+pub overflow_mul-result : goal.overflow_mul-result
+overflow_mul-result c =
     let a = c.args in
     omega (arith, divided_first a.size a.total c.requires.some a.reached, part_within a.size a.total c.requires.some a.reached c.requires.within)
 
-pub overflow-add-result : goal.overflow-add-result
-overflow-add-result c =
+pub overflow_add-result : goal.overflow_add-result
+overflow_add-result c =
     let a = c.args in
     omega (arith, divided_first a.size a.total c.requires.some a.reached, part_within a.size a.total c.requires.some a.reached c.requires.within)
 

@@ -7,24 +7,18 @@ use Rattle.ends.proofs.Soundness.{all_sound_set}
 use Rattle.ends.proofs.Standing.{take_set, replaced_is_set}
 use Rattle.ends.proofs.table.AccountTable.replace.Goals as goal
 
-pub invariant-of-self : goal.invariant-of-self
-invariant-of-self c =
+pub invariant_of-self : goal.invariant_of-self
+invariant_of-self c =
     let t = c.args.self.now in
     let i = c.args.i in
     let a = c.args.account in
-    let listed_sound = all_sound_set (listed t) i a t.bounded c.requires.holds in (
-      simp length-set t.slots,
-      (
-        t.fits,
-        (
-          subst (λ xs. all_sound xs ≡ true) (sym (take_set t.count t.accounts i a)) listed_sound,
-          (
-            subst (λ xs. all_blank xs ≡ true) (sym (drop-set-lt t.count t.accounts i a c.requires.within)) t.cleared,
-            tt,
-          ),
-        ),
-      ),
-    )
+    let listed_sound = all_sound_set (listed t) i a t.bounded c.requires.holds in
+    record {
+      slots = simp length-set t.slots;
+      fits = t.fits;
+      bounded = subst (λ xs. all_sound xs ≡ true) (sym (take_set t.count t.accounts i a)) listed_sound;
+      cleared = subst (λ xs. all_blank xs ≡ true) (sym (drop-set-lt t.count t.accounts i a c.requires.within)) t.cleared;
+    }
 
 pub returns : goal.returns
 returns c =
