@@ -11,11 +11,11 @@ use Rattle.forms.proofs.naming.are_distinct.Goals as goal
 past : (xs : List FormLine) (i n : ℕ) (b : Bool) → b ≡ names (take (length xs - i) (drop i xs)) n → b ≡ names (drop i xs) n
 past xs i n b h = h ∙ ap (λ ys. names ys n) (take_rest xs i)
 
-pub returns-then-names-account : goal.returns-then-names-account
-returns-then-names-account c = named_again c.args.lines.now c.loop-i.i c.loop-i.invariant c.loop-i-test.true (past c.args.lines.now (c.loop-i.i + 1) (get_or c.args.lines.now c.loop-i.i no_line).account.0 _ c.if-names-account.ensures)
+pub returns-then-names_account : goal.returns-then-names_account
+returns-then-names_account c = named_again c.args.lines.now c.loop-i.i c.loop-i.invariant c.loop-i-test.true (past c.args.lines.now (c.loop-i.i + 1) (get_or c.args.lines.now c.loop-i.i no_line).account.0 _ c.if-names_account.ensures)
 
 pub loop-i-preserved : goal.loop-i-preserved
-loop-i-preserved c = not_named_again c.args.lines.now c.loop-i.i c.loop-i.invariant c.loop-i-test.true (past c.args.lines.now (c.loop-i.i + 1) (get_or c.args.lines.now c.loop-i.i no_line).account.0 _ c.if-names-account.ensures)
+loop-i-preserved c = not_named_again c.args.lines.now c.loop-i.i c.loop-i.invariant c.loop-i-test.true (past c.args.lines.now (c.loop-i.i + 1) (get_or c.args.lines.now c.loop-i.i no_line).account.0 _ c.if-names_account.ensures)
 
 pub returns : goal.returns
 returns c = never_twice c.args.lines.now c.loop-i.i c.loop-i.invariant c.loop-i-test.false

@@ -25,8 +25,8 @@ module _ (xs : List FormLine) (i left : ℕ) (each : list_all has_weight xs ≡ 
             and_right (list_all has_weight xs) (leb (total_weight xs) whole_weight) (lt-leb (total_weight xs) whole_weight over)
       ]
 
-pub returns-in-default : goal.returns-in-default
-returns-in-default c = cannot c.args.lines.now c.loop-line.line-index c.loop-line.left c.loop-line.invariant.0 c.loop-line.invariant.1 c.loop-line-test.true c.in-default.ensures
+pub returns-in_default : goal.returns-in_default
+returns-in_default c = cannot c.args.lines.now c.loop-line.line-index c.loop-line.left c.loop-line.invariant.0 c.loop-line.invariant.1 c.loop-line-test.true c.in_default.ensures
 
 pub loop-line-preserved : goal.loop-line-preserved
 loop-line-preserved c =

@@ -4,10 +4,10 @@ use Rattle.std.proofs.lemmas.Bool.Decides.{nat_tests}
 use Rattle.forms.specs.Rows.{lawful}
 use Rattle.forms.proofs.row.FormRow.is_lawful.Goals as goal
 
-pub returns-then-is-line-count : goal.returns-then-is-line-count
+pub returns-then-is_line_count : goal.returns-then-is_line_count
 unfolding lawful
-returns-then-is-line-count c = grind (arith, nat_tests)
+returns-then-is_line_count c = grind (arith, nat_tests)
 
-pub returns-else-is-line-count : goal.returns-else-is-line-count
+pub returns-else-is_line_count : goal.returns-else-is_line_count
 unfolding lawful
-returns-else-is-line-count c = grind (arith, nat_tests)
+returns-else-is_line_count c = grind (arith, nat_tests)

@@ -30,8 +30,8 @@ by_lines row lines counts size holds blank =
 
 pub returns : goal.returns
 returns c =
-    let row : FormRow = record { lines = c.in-places.result; count = length c.args.lines.now } in
-    let is = c.in-places.ensures in
+    let row : FormRow = record { lines = c.in_places.result; count = length c.args.lines.now } in
+    let is = c.in_places.ensures in
     record {
       holds = is.first;
       whole = row_is row c.args.lines.now is.size is.first is.blank refl;
