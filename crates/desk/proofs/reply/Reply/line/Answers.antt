@@ -5,8 +5,8 @@ use Rattle.desk.specs.Lines.{numeral}
 use Rattle.desk.proofs.Lines.{word_few, word_plain, short_numeral, shows_reply}
 use Rattle.desk.proofs.reply.Reply.line.Goals as goal
 
-pub write-line-requires : goal.write-line-requires
-write-line-requires c =
+pub write_line-requires : goal.write_line-requires
+write_line-requires c =
     let word = c.args.self.word in
     record {
       short = (word_few word c.shown.result.now c.shown.ensures, word_plain word c.shown.result.now c.shown.ensures);
@@ -20,7 +20,7 @@ returns c =
     let refusal_fits : SFits w64 c.from.result = search rules in
     let second_fits : SFits w64 row.second = search rules in
     shows_reply c.args.self row _ c.shown.result.now (numeral c.new-refusal.result) (numeral c.new-first.result) (numeral c.new-second.result)
-    c.write-line.ensures c.row-row.ensures c.shown.ensures
+    c.write_line.ensures c.row-row.ensures c.shown.ensures
     (c.new-refusal.ensures.exact ∙ ap decimal_of (to_z-of_z w64 c.from.result refusal_fits ∙ c.from.ensures))
     (c.new-first.ensures.exact ∙ ap decimal_of (to_z-of_z w64 row.first first_fits))
     (c.new-second.ensures.exact ∙ ap decimal_of (to_z-of_z w64 row.second second_fits))

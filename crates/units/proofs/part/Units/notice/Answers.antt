@@ -6,5 +6,5 @@ use Rattle.units.proofs.part.Units.notice.Goals as goal
 pub put-requires : goal.put-requires
 put-requires c = record {
   place = c.in-Some.ensures.place;
-  lawful = ap (λ (u : Enrolled). filed u.waiting) c.in-ok-notice.ensures.1 ∙ c.in-Some.ensures.lawful;
+  lawful = ap (λ (u : Enrolled). filed u.waiting) c.in_ok-notice.ensures.1 ∙ c.in-Some.ensures.lawful;
 }
