@@ -62,7 +62,7 @@ mod tests {
             &mut output,
         )?;
         assert!(rt; !goes_on);
-        assert!(rt; output.as_slice() == b"account,0,0,0\r\n?,19,0,0\r\n");
+        assert!(rt; output.as_slice() == b"account,0,0,0\r\n?,19,0,0\r\n".as_slice());
         Ok(())
     }
 
@@ -72,7 +72,7 @@ mod tests {
         let mut output = Vec::new(rt.alloc());
         assert!(rt; serve(&mut desk, b"post,0\r\nacco", &mut output)?);
         assert!(rt; serve(&mut desk, b"unt,0,1\r\nac", &mut output)?);
-        assert!(rt; output.as_slice() == b"?,21,0,0\r\naccount,3,0,0\r\n");
+        assert!(rt; output.as_slice() == b"?,21,0,0\r\naccount,3,0,0\r\n".as_slice());
         Ok(())
     }
 }

@@ -34,7 +34,7 @@ impl BillingEnd for Deaf {
 
 // What an account's credit rises by at a posting, over any end: proved from what every end promises.
 fn rise<E: BillingEnd>(end: &mut E, account: AccountNumber, cents: Cents) -> Cents
-    ensures { credits end.new account.0 ≡ credits end.old account.0 + result.0 }
+    ensures { E.credits end.new account.0 ≡ E.credits end.old account.0 + result.0 }
 {
     if end.post(account, cents) {
         cents

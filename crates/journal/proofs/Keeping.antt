@@ -1,5 +1,5 @@
 -- Every world that is reached along a page keeps the page.
-use Rattle.std.proofs.Common.{◌≡◌, ℕ, ◌<◌, Bool, true, false, cond, List, [], ◌∷◌, length, get_or, set, replicate, pos, neg_ℤ, Some, None, Ok, Err, Option, Result, sym, refl, ap, ◌∙◌, subst, arith, get_or-set_same}
+use Rattle.std.proofs.Common.{◌≡◌, ℕ, ◌<◌, Bool, true, false, cond, List, [], ◌∷◌, length, get_or, set, pos, neg_ℤ, Some, None, Ok, Err, Option, Result, sym, refl, ap, ◌∙◌, subst, arith, get_or-set_same}
 use Rattle.std.proofs.lemmas.List.{take_at}
 use Rattle.std.proofs.lemmas.Bool.{leb-true}
 use Rattle.std.specs.Option.{option_map}
@@ -16,9 +16,9 @@ use Rattle.units.specs.Waiting.{as_filed, Shows}
 use Rattle.units.specs.declared.unit.Unit.{Unit as Enrolled}
 use Rattle.units.specs.declared.waiting.WaitingForm.{WaitingForm}
 use Rattle.units.proofs.Places.{get_d_replicate}
-use Rattle.ledger.specs.Calls.{Opened, OnUnits, OnRates, OnRecovery}
+use Rattle.ledger.specs.Calls.{Opened, OnUnits}
 use Rattle.ledger.specs.declared.book.Book.{Book}
-use Rattle.journal.specs.Page.{UnitCall, enrol, notice, form, RecoveryCall, enter, Call, of_unit, basic, of_recovery, AnswerTo, Line, noted, Page}
+use Rattle.journal.specs.Page.{UnitCall, enrol, notice, form, enter, Call, of_unit, basic, of_recovery, AnswerTo, noted, Page}
 use Rattle.journal.specs.Counts.{market_revenue}
 use Rattle.journal.specs.Told.{Told, day_on, rate_on, shown, standing_after, terms_on, unit_on}
 use Rattle.journal.specs.Worlds.{Does, Ends, CreditedAs, Reached, opening, called, between}

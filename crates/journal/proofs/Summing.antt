@@ -5,7 +5,7 @@ use Rattle.std.proofs.lemmas.Bool.{eqb-true}
 use Rattle.recovery.specs.Entering.{is_costs, is_revenue, Entered, Unentered, balance_of}
 use Rattle.recovery.specs.declared.part.Recovery.{Recovery}
 use Rattle.journal.specs.Page.{enter, of_recovery, Line, noted, Page}
-use Rattle.journal.specs.Counts.{Column, costs, costs_waiting, market_revenue, Move, into, moves, coming_in, going_out, sum_by, came_in, went_out, Counts}
+use Rattle.journal.specs.Counts.{Column, costs, costs_waiting, market_revenue, Move, into, moves, coming_in, going_out, sum_by, Counts}
 
 -- each sum is a count, and all costs still wait
 pub record Sums (page : Page) (s : Recovery) : Type 0 where

@@ -10,7 +10,7 @@ use Rattle.units.specs.declared.waiting.WaitingForm.{WaitingForm}
 use Rattle.ledger.specs.Queries as query
 use Rattle.ledger.specs.declared.book.Book.{Book}
 use Rattle.journal.specs.Page.{Page}
-use Rattle.journal.specs.Counts.{Column, costs, costs_waiting, market_revenue, Counts}
+use Rattle.journal.specs.Counts.{costs, costs_waiting, market_revenue, Counts}
 use Rattle.journal.specs.Told.{Told, day_on, rate_on, shown, unit_on}
 use Rattle.journal.specs.Worlds.{Ends, CreditedAs, Reached}
 

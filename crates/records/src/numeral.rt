@@ -108,10 +108,10 @@ mod tests {
 
     #[test]
     fn writes_numerals(rt: HostRuntime) {
-        assert!(rt; Decimal::new(0).as_bytes() == b"0");
-        assert!(rt; Decimal::new(-1).as_bytes() == b"-1");
-        assert!(rt; Decimal::new(i64::MIN).as_bytes() == b"-9223372036854775808");
-        assert!(rt; Decimal::new(i64::MAX).as_bytes() == b"9223372036854775807");
+        assert!(rt; Decimal::new(0).as_bytes() == b"0".as_slice());
+        assert!(rt; Decimal::new(-1).as_bytes() == b"-1".as_slice());
+        assert!(rt; Decimal::new(i64::MIN).as_bytes() == b"-9223372036854775808".as_slice());
+        assert!(rt; Decimal::new(i64::MAX).as_bytes() == b"9223372036854775807".as_slice());
         assert_eq!(rt; number(Decimal::new(1_050).as_bytes()), Some(1_050));
     }
 }

@@ -1,5 +1,5 @@
 -- The Basic Service rates of the classes.
-use Rattle.std.specs.Prelude.{◌≡◌, ℕ, set, None, Option, Result, slice_index_or, slice_set}
+use Rattle.std.specs.Prelude.{◌≡◌, ℕ, None, Option, Result, slice_index_or, slice_set}
 use Rattle.measures.specs.Answers.{unless, Answered}
 use Rattle.measures.specs.Measures.{is_class, is_rate}
 use Rattle.measures.specs.declared.measure.Rate.{Rate}
