@@ -3,7 +3,7 @@
 
 usage: python3 tools/respell.py      at the top, once, right after /opt/rattle/port/port.py
 
-Renamed is what a file of specs/ or a lemma file of proofs/ names, and what an answer binds. What the library or the check names, functions of src/, strings and comments keep their names.
+Renamed is what a file of specs/ or a lemma file of proofs/ names, and what an answer binds. What the library or the check names, functions of src/, strings and comments keep their names. It is for the old spelling alone: a second run stops, and changes nothing.
 """
 
 import os
