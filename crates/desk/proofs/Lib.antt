@@ -1,2 +1,4 @@
 pub mod Lines
 pub mod Serving
+pub mod Journalling
+pub mod Reading

@@ -1,5 +1,5 @@
 -- The line of a word and three numbers can always be written.
-use Rattle.std.proofs.Common.{◌≡◌, ℕ, ◌≤◌, true, List, [], ◌∷◌, ◌++◌, length, take, drop, ℤ, pos, Some, None, Option, sym, refl, ap, ◌∙◌, subst, arith}
+use Rattle.std.proofs.Common.{◌≡◌, ℕ, ◌+◌, ◌≤◌, true, List, [], ◌∷◌, ◌++◌, length, take, drop, ℤ, pos, Some, None, Option, sym, refl, ap, ◌∙◌, subst, arith}
 use Rattle.std.proofs.lemmas.List.{length-append, take_at}
 use Rattle.std.proofs.lemmas.Bool.{and_parts, and_from}
 use Rattle.std.proofs.lemmas.Bool.Decides.{nat_tests}
@@ -15,7 +15,7 @@ use Rattle.desk.specs.Lines.{Short, Spells}
 use Rattle.desk.specs.Replies.{word_shown, fields_shown, Shows}
 use Rattle.desk.specs.declared.reply.Reply.{Reply}
 use Rattle.desk.specs.declared.word.Word.{Word}
-use Rattle.desk.specs.declared.word.Word.TheVariants.{Account}
+use Rattle.desk.specs.declared.word.Word.TheVariants.{Account, Enrol, Notice, Basic, Form, Enter}
 
 -- a plain field is text
 plain_text : (field : List ℕ) → every plain_byte field ≡ true → every text_byte field ≡ true
@@ -76,10 +76,20 @@ module _ (word refusal first second refusal' first' second' : List ℕ) (same_re
 pub word_few : (word : Option Word) (bytes : List ℕ) → bytes ≡ word_shown word → length bytes ≤ 8
 word_few None bytes e = omega (arith, ap length e)
 word_few (Some Account) bytes e = omega (arith, ap length e)
+word_few (Some Enrol) bytes e = omega (arith, ap length e)
+word_few (Some Notice) bytes e = omega (arith, ap length e)
+word_few (Some Basic) bytes e = omega (arith, ap length e)
+word_few (Some Form) bytes e = omega (arith, ap length e)
+word_few (Some Enter) bytes e = omega (arith, ap length e)
 
 pub word_plain : (word : Option Word) (bytes : List ℕ) → bytes ≡ word_shown word → every plain_byte bytes ≡ true
 word_plain None bytes e = ap (every plain_byte) e
 word_plain (Some Account) bytes e = ap (every plain_byte) e
+word_plain (Some Enrol) bytes e = ap (every plain_byte) e
+word_plain (Some Notice) bytes e = ap (every plain_byte) e
+word_plain (Some Basic) bytes e = ap (every plain_byte) e
+word_plain (Some Form) bytes e = ap (every plain_byte) e
+word_plain (Some Enter) bytes e = ap (every plain_byte) e
 
 pub short_numeral : (z : ℤ) (bytes : List ℕ) → Writes z bytes → Short bytes
 short_numeral z bytes w = record { few = w.most; plain = w.plain }

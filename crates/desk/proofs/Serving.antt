@@ -2,7 +2,6 @@
 use Rattle.std.proofs.Common.{◌≡◌, ℕ, ◌+◌, List, [], ◌∷◌, ◌++◌, length, Some, None, Option, sym, refl, ap, ◌∙◌, subst, arith}
 use Rattle.std.proofs.lemmas.List.{append_assoc, append-nil}
 use Rattle.std.specs.Option.{option_to_list}
-use Rattle.ends.specs.declared.table.AccountTable.{AccountTable}
 use Rattle.records.specs.FieldLists.{fields_of}
 use Rattle.records.specs.Grammar.{FirstFault}
 use Rattle.records.specs.Readers.{Taken, TakenAs, Reads, ReadsAs, ReadOn, onward, ended, broken, Finishes, FinishesAs, FinishOn, clear, finished, too_soon}
@@ -17,6 +16,7 @@ use Rattle.desk.specs.Replies.{unread, refusal_of}
 use Rattle.desk.specs.Serving as serving
 use Rattle.desk.specs.Serving.{Replied, Served, over, next, broken as broken_off, Serves, TurnOn, replied, faulty, EndOn, between, last, cut_off, TurnsAs, EndsAs, Turns, Ends, Continues, Concludes, Within}
 use Rattle.desk.specs.declared.service.Desk.{Desk}
+use Rattle.desk.specs.declared.settlement.Settlement.{Settlement}
 use Rattle.desk.specs.declared.service.Turn.{Turn}
 use Rattle.desk.specs.declared.service.Turn.TheVariants.{More, Reply as Answer, End}
 use Rattle.desk.specs.declared.reply.Reply.{Reply}
@@ -46,10 +46,10 @@ each_status F G open' complete failed Complete h = complete h
 each_status F G open' complete failed (Failed x) h = failed x h
 
 -- desks with the same parts are the same
-same_desk : (e f : Desk) → f.reader ≡ e.reader → f.table ≡ e.table → f ≡ e
+same_desk : (e f : Desk) → f.reader ≡ e.reader → f.settlement ≡ e.settlement → f ≡ e
 same_desk e f r t =
-    let made : Reader → AccountTable → Desk = λ x y. record { reader = x; table = y } in
-    ap (λ x. made x f.table) r ∙ ap (made e.reader) t
+    let made : Reader → Settlement → Desk = λ x y. record { reader = x; settlement = y } in
+    ap (λ x. made x f.settlement) r ∙ ap (made e.reader) t
 
 -- a part of a text: g is the reader after it, and f the desk after the reply
 
@@ -59,23 +59,23 @@ module _ (e f : Desk) (part : List ℕ) (r : Progress) (g : Reader) (same : f.re
       → ((x : Fault) → ReadsAs (Failed x) e.reader part r g → TurnsAs (Failed x) e part turn f) → Turns e part turn f
   turns turn on failed = each_status (λ s. ReadsAs s e.reader part r g) (λ s. TurnsAs s e part turn f) on on failed e.reader.status reads
 
-  more_on : r.event ≡ Wanting → f.table ≡ e.table → ReadOn e.reader part r g → TurnOn e part More f
+  more_on : r.event ≡ Wanting → f.settlement ≡ e.settlement → ReadOn e.reader part r g → TurnOn e part More f
   more_on is t (onward v u o h) = serving.onward refl t (λ p k. subst (λ x. Taken x (p ++ part)) (sym same) (h p k))
   more_on is t (ended v z u o h) = absurd (apart_more_ended r.event is v)
   more_on is t (broken x v u o h) = absurd (apart_more_faulty r.event x is v)
 
-  pub turn_more : r.event ≡ Wanting → f.table ≡ e.table → Turns e part More f
+  pub turn_more : r.event ≡ Wanting → f.settlement ≡ e.settlement → Turns e part More f
   turn_more is t = turns More (more_on is t) (λ x h. absurd (apart_more_faulty r.event x is h.0))
 
-  reply_on : (reply : Reply) → r.event ≡ Ended → Replied (fields_of g.fields) e.table reply f.table → ReadOn e.reader part r g → TurnOn e part (Answer r.used reply) f
+  reply_on : (reply : Reply) → r.event ≡ Ended → Replied (fields_of g.fields) e.settlement reply f.settlement → ReadOn e.reader part r g → TurnOn e part (Answer r.used reply) f
   reply_on reply is t (onward v u o h) = absurd (apart_more_ended r.event v is)
   reply_on reply is t (ended v z u o h) = replied r.used reply (fields_of g.fields) refl z u (subst (λ x. Taken x []) (sym same) (complete_taken g o)) t h
   reply_on reply is t (broken x v u o h) = absurd (apart_ended_faulty r.event x is v)
 
-  pub turn_reply : (reply : Reply) → r.event ≡ Ended → Replied (fields_of g.fields) e.table reply f.table → Turns e part (Answer r.used reply) f
+  pub turn_reply : (reply : Reply) → r.event ≡ Ended → Replied (fields_of g.fields) e.settlement reply f.settlement → Turns e part (Answer r.used reply) f
   turn_reply reply is t = turns (Answer r.used reply) (reply_on reply is t) (λ x h. absurd (apart_ended_faulty r.event x is h.0))
 
-  fault_on : (x : Fault) (reply : Reply) → reply ≡ unread (refusal_of x) → r.event ≡ Faulty x → f.table ≡ e.table → ReadOn e.reader part r g → TurnOn e part (End reply) f
+  fault_on : (x : Fault) (reply : Reply) → reply ≡ unread (refusal_of x) → r.event ≡ Faulty x → f.settlement ≡ e.settlement → ReadOn e.reader part r g → TurnOn e part (End reply) f
   fault_on x reply says is t (onward v u o h) = absurd (apart_more_faulty r.event x v is)
   fault_on x reply says is t (ended v z u o h) = absurd (apart_ended_faulty r.event x v is)
   fault_on x reply says is t (broken y v u o h) =
@@ -83,7 +83,7 @@ module _ (e f : Desk) (part : List ℕ) (r : Progress) (g : Reader) (same : f.re
       faulty x r.used (ap End says) (ap (λ d. d.status) same ∙ o ∙ ap Failed one) t u
       (λ p k rest. subst (FirstFault (p ++ (part ++ rest)) (length p + r.used)) one (h p k rest))
 
-  pub turn_fault : (x : Fault) (reply : Reply) → reply ≡ unread (refusal_of x) → r.event ≡ Faulty x → f.table ≡ e.table → Turns e part (End reply) f
+  pub turn_fault : (x : Fault) (reply : Reply) → reply ≡ unread (refusal_of x) → r.event ≡ Faulty x → f.settlement ≡ e.settlement → Turns e part (End reply) f
   turn_fault x reply says is t =
       turns (End reply) (fault_on x reply says is t)
       (λ y h. (ap End says ∙ ap (λ z. End (unread (refusal_of z))) (one_fault r.event x y is h.0), same_desk e f (same ∙ h.2) t))
@@ -105,30 +105,30 @@ module _ (e f : Desk) (v : Event) (g : Reader) (same : f.reader ≡ g) (finishes
       → ((x : Fault) → FinishesAs (Failed x) e.reader v g → EndsAs (Failed x) e r f) → Ends e r f
   ends r on failed = each_status (λ s. FinishesAs s e.reader v g) (λ s. EndsAs s e r f) on on failed e.reader.status finishes
 
-  none_on : v ≡ Wanting → f.table ≡ e.table → FinishOn e.reader v g → EndOn e None f
-  none_on is t (clear w o h) = between refl t (λ p k. (h p k).0)
+  none_on : v ≡ Wanting → f.settlement ≡ e.settlement → FinishOn e.reader v g → EndOn e None f
+  none_on is t (clear w o h) = between refl t (λ p k. ((h p k).0, subst (λ x. Taken x []) (sym same) (h p k).1))
   none_on is t (finished w o h) = absurd (apart_more_ended v is w)
   none_on is t (too_soon x w o h) = absurd (apart_more_faulty v x is w)
 
-  pub end_none : v ≡ Wanting → f.table ≡ e.table → Ends e None f
+  pub end_none : v ≡ Wanting → f.settlement ≡ e.settlement → Ends e None f
   end_none is t = ends None (none_on is t) (λ x h. absurd (apart_more_faulty v x is h.0))
 
-  last_on : (reply : Reply) → v ≡ Ended → Replied (fields_of g.fields) e.table reply f.table → FinishOn e.reader v g → EndOn e (Some reply) f
+  last_on : (reply : Reply) → v ≡ Ended → Replied (fields_of g.fields) e.settlement reply f.settlement → FinishOn e.reader v g → EndOn e (Some reply) f
   last_on reply is t (clear w o h) = absurd (apart_more_ended v w is)
-  last_on reply is t (finished w o h) = last reply (fields_of g.fields) refl t h
+  last_on reply is t (finished w o h) = last reply (fields_of g.fields) refl (subst (λ x. Taken x []) (sym same) (complete_taken g o)) t h
   last_on reply is t (too_soon x w o h) = absurd (apart_ended_faulty v x is w)
 
-  pub end_reply : (reply : Reply) → v ≡ Ended → Replied (fields_of g.fields) e.table reply f.table → Ends e (Some reply) f
+  pub end_reply : (reply : Reply) → v ≡ Ended → Replied (fields_of g.fields) e.settlement reply f.settlement → Ends e (Some reply) f
   end_reply reply is t = ends (Some reply) (last_on reply is t) (λ x h. absurd (apart_ended_faulty v x is h.0))
 
-  cut_on : (x : Fault) (reply : Reply) → reply ≡ unread (refusal_of x) → v ≡ Faulty x → f.table ≡ e.table → FinishOn e.reader v g → EndOn e (Some reply) f
+  cut_on : (x : Fault) (reply : Reply) → reply ≡ unread (refusal_of x) → v ≡ Faulty x → f.settlement ≡ e.settlement → FinishOn e.reader v g → EndOn e (Some reply) f
   cut_on x reply says is t (clear w o h) = absurd (apart_more_faulty v x w is)
   cut_on x reply says is t (finished w o h) = absurd (apart_ended_faulty v x w is)
   cut_on x reply says is t (too_soon y w o h) =
       let one : y ≡ x = one_fault v y x w is in
       cut_off x (ap Some says) (ap (λ d. d.status) same ∙ o ∙ ap Failed one) t (λ p k. subst (FirstFault p (length p)) one (h p k))
 
-  pub end_fault : (x : Fault) (reply : Reply) → reply ≡ unread (refusal_of x) → v ≡ Faulty x → f.table ≡ e.table → Ends e (Some reply) f
+  pub end_fault : (x : Fault) (reply : Reply) → reply ≡ unread (refusal_of x) → v ≡ Faulty x → f.settlement ≡ e.settlement → Ends e (Some reply) f
   end_fault x reply says is t =
       ends (Some reply) (cut_on x reply says is t)
       (λ y h. (ap Some says ∙ ap (λ z. Some (unread (refusal_of z))) (one_fault v x y is h.0), same_desk e f (same ∙ h.1) t))
@@ -136,25 +136,25 @@ module _ (e f : Desk) (v : Event) (g : Reader) (same : f.reader ≡ g) (finishes
 -- the replies to a whole text
 
 -- a desk whose reading has ended owes nothing
-owes_nothing : (e : Desk) (x : Fault) (text : List ℕ) (replies : List Reply) (t : AccountTable) → e.reader.status ≡ Failed x → Serves e text replies t
+owes_nothing : (e : Desk) (x : Fault) (text : List ℕ) (replies : List Reply) (t : Settlement) → e.reader.status ≡ Failed x → Serves e text replies t
 owes_nothing e x text replies t s p k = absurd (subst (λ y. TakenAs y e.reader p) s k)
 
 continues_on : (e f : Desk) (part : List ℕ) (r : Turn) → TurnOn e part r f → Continues e part r f
 continues_on e f part r (serving.onward is t h) =
     subst (λ x. Continues e part x f) (sym is)
     (λ rest replies t' serves p k.
-    subst (λ x. Served e.table x replies t') (append_assoc p part rest) (subst (λ x. Served x ((p ++ part) ++ rest) replies t') t (serves (p ++ part) (h p k))))
+    subst (λ x. Served e.settlement x replies t') (append_assoc p part rest) (subst (λ x. Served x ((p ++ part) ++ rest) replies t') t (serves (p ++ part) (h p k))))
 continues_on e f part r (replied used reply fields is z u none said h) =
     subst (λ x. Continues e part x f) (sym is)
     (λ rest replies t' serves p k. next (h p k rest) said (serves [] none))
 continues_on e f part r (faulty x used is s t u h) =
     subst (λ y. Continues e part y f) (sym is)
-    (λ rest p k. subst (Served e.table (p ++ (part ++ rest)) (unread (refusal_of x) ∷ [])) (sym t) (broken_off (h p k rest)))
+    (λ rest p k. subst (Served e.settlement (p ++ (part ++ rest)) (unread (refusal_of x) ∷ [])) (sym t) (broken_off (h p k rest)))
 
 continues_failed : (e f : Desk) (part : List ℕ) (r : Turn) (x : Fault) → e.reader.status ≡ Failed x → Continues e part r f
 continues_failed e f part More x s = λ rest replies t serves. owes_nothing e x (part ++ rest) replies t s
 continues_failed e f part (Answer used reply) x s = λ rest replies t serves. owes_nothing e x (part ++ rest) (reply ∷ replies) t s
-continues_failed e f part (End reply) x s = λ rest. owes_nothing e x (part ++ rest) (reply ∷ []) f.table s
+continues_failed e f part (End reply) x s = λ rest. owes_nothing e x (part ++ rest) (reply ∷ []) f.settlement s
 
 continues_as : (e f : Desk) (part : List ℕ) (r : Turn) (s : Status) → e.reader.status ≡ s → TurnsAs s e part r f → Continues e part r f
 continues_as e f part r Open is h = continues_on e f part r h
@@ -166,19 +166,19 @@ continues e f part r h = continues_as e f part r e.reader.status refl h
 
 concludes_on : (e f : Desk) (r : Option Reply) → EndOn e r f → Concludes e r f
 concludes_on e f r (between is t h) p k =
-    subst (λ x. Served e.table (p ++ []) (option_to_list x) f.table) (sym is)
-    (subst (λ x. Served e.table x [] f.table) (sym (append-nil p ∙ h p k)) (subst (Served e.table [] []) (sym t) over))
-concludes_on e f r (last reply fields is said h) p k =
-    subst (λ x. Served e.table (p ++ []) (option_to_list x) f.table) (sym is)
-    (subst (λ x. Served e.table x (reply ∷ []) f.table) (sym (append-nil p)) (next (h p k) said over))
+    subst (λ x. Served e.settlement (p ++ []) (option_to_list x) f.settlement) (sym is)
+    (subst (λ x. Served e.settlement x [] f.settlement) (sym (append-nil p ∙ (h p k).0)) (subst (Served e.settlement [] []) (sym t) over))
+concludes_on e f r (last reply fields is ready said h) p k =
+    subst (λ x. Served e.settlement (p ++ []) (option_to_list x) f.settlement) (sym is)
+    (subst (λ x. Served e.settlement x (reply ∷ []) f.settlement) (sym (append-nil p)) (next (h p k) said over))
 concludes_on e f r (cut_off x is s t h) p k =
-    subst (λ y. Served e.table (p ++ []) (option_to_list y) f.table) (sym is)
-    (subst (λ y. Served e.table y (unread (refusal_of x) ∷ []) f.table) (sym (append-nil p)) (subst (Served e.table p (unread (refusal_of x) ∷ [])) (sym t) (broken_off (h p k))))
+    subst (λ y. Served e.settlement (p ++ []) (option_to_list y) f.settlement) (sym is)
+    (subst (λ y. Served e.settlement y (unread (refusal_of x) ∷ []) f.settlement) (sym (append-nil p)) (subst (Served e.settlement p (unread (refusal_of x) ∷ [])) (sym t) (broken_off (h p k))))
 
 concludes_as : (e f : Desk) (r : Option Reply) (s : Status) → e.reader.status ≡ s → EndsAs s e r f → Concludes e r f
 concludes_as e f r Open is h = concludes_on e f r h
 concludes_as e f r Complete is h = concludes_on e f r h
-concludes_as e f r (Failed x) is h = owes_nothing e x [] (option_to_list r) f.table is
+concludes_as e f r (Failed x) is h = owes_nothing e x [] (option_to_list r) f.settlement is
 
 pub concludes : (e f : Desk) (r : Option Reply) → Ends e r f → Concludes e r f
 concludes e f r h = concludes_as e f r e.reader.status refl h

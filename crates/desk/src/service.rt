@@ -1,13 +1,17 @@
 // The desk: it takes in a text of records part by part, carries out what each asks for, and replies to it.
 ghost use Rattle.std.specs.Prelude.{◌≡◌, [], length};
 ghost use Rattle.ends.specs.Tables.{listed};
+ghost use Rattle.journal.specs.Law.{Lifelong};
+ghost use Rattle.journal.specs.Worlds.{ReachedAtOnce};
+ghost use Rattle.ledger.specs.Calls.{Opened};
 ghost use Rattle.records.specs.FieldLists.{fields_of};
 ghost use Rattle.records.specs.Readers.{Taken};
+ghost use Rattle.desk.specs.Journalling.{Journalled};
 ghost use Rattle.desk.specs.Serving.{Concludes, Continues, Ends, Replied, Turns, Within};
 
 use crate::call::Call;
 use crate::reply::Reply;
-use ends::AccountTable;
+use crate::settlement::Settlement;
 use measures::Refusal;
 use records::{Event, Reader};
 
@@ -22,21 +26,26 @@ pub enum Turn {
     End(Reply),
 }
 
-/// Reads records, and carries out their calls on an account table.
+/// Reads records, and carries out their calls on a book and an account table.
 #[derive(Drop)]
 pub struct Desk {
     reader: Reader,
-    table: AccountTable,
+    settlement: Settlement,
 }
 
 impl Desk {
-    /// A desk at the start of a text, with no account.
+    /// A desk at the start of a text, with a book that is newly opened and a table with no account.
     pub fn new() -> Desk
-        ensures { (Taken result.reader []) × (listed result.table ≡ []) }
+        ensures text { Taken result.reader [] }
+        ensures table { listed result.settlement.table ≡ [] }
+        ensures opened { Opened result.settlement.book }
+        ensures book { ReachedAtOnce result.settlement.book }
+        ensures page { Journalled result.settlement }
+        ensures law { Lifelong }
     {
         Desk {
             reader: Reader::new(),
-            table: AccountTable::new(),
+            settlement: Settlement::new(),
         }
     }
 
@@ -72,12 +81,12 @@ impl Desk {
     // Replies to the record that the reader holds.
     fn reply(&mut self) -> Reply
         ensures reader { self.new.reader ≡ self.old.reader }
-        ensures replied { Replied (fields_of self.old.reader.fields) self.old.table result self.new.table }
+        ensures replied { Replied (fields_of self.old.reader.fields) self.old.settlement result self.new.settlement }
     {
         match Call::from_fields(self.reader.fields()) {
             Some(call) => Reply {
                 word: Some(call.word()),
-                answer: call.carry_out(&mut self.table),
+                answer: call.carry_out(&mut self.settlement),
             },
             None => Reply::unread(Refusal::NoCall),
         }

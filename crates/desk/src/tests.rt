@@ -1,7 +1,7 @@
 // What the desk replies, by example.
 use crate::service::{Desk, Turn};
 
-// The line of the reply to a text that is taken in at once, and that its first record or fault is replied to.
+// Whether this line is the reply to the first record or fault of a text that is taken in at once.
 fn is_replied(text: &[u8], line: &[u8]) -> bool {
     let mut desk = Desk::new();
     match desk.take_in(text) {
@@ -22,6 +22,21 @@ fn replies_to_records(rt: HostRuntime) {
     assert!(rt; is_replied(b"post,0\r\n", b"?,21,0,0\r\n"));
     assert!(rt; is_replied(b"\r\n", b"?,21,0,0\r\n"));
     assert!(rt; is_replied(b"", b""));
+}
+
+#[test]
+fn replies_to_calls_on_the_book(rt: HostRuntime) {
+    let enrolled = is_replied(
+        b"enrol,0,1,3,2,400000,900,20000,6000,250,0,0\r\n",
+        b"enrol,0,0,0\r\n",
+    );
+    assert!(rt; enrolled);
+    assert!(rt; is_replied(b"notice,0,1,1000\r\n", b"notice,1,0,0\r\n"));
+    assert!(rt; is_replied(b"basic,2,100001\r\n", b"basic,3,0,0\r\n"));
+    assert!(rt; is_replied(b"form,0,1000\r\n", b"form,1,0,0\r\n"));
+    assert!(rt; is_replied(b"form,0,1000,7\r\n", b"?,21,0,0\r\n"));
+    assert!(rt; is_replied(b"enter,2,250\r\n", b"enter,0,0,0\r\n"));
+    assert!(rt; is_replied(b"enter,2,250,0\r\n", b"?,21,0,0\r\n"));
 }
 
 #[test]

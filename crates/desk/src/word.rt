@@ -7,6 +7,11 @@ ghost use Rattle.desk.specs.Words.{name_of, word_in};
 #[derive(Clone, Copy)]
 pub enum Word {
     Account,
+    Enrol,
+    Notice,
+    Basic,
+    Form,
+    Enter,
 }
 
 impl Word {
@@ -16,6 +21,11 @@ impl Word {
     {
         match self {
             Word::Account => b"account",
+            Word::Enrol => b"enrol",
+            Word::Notice => b"notice",
+            Word::Basic => b"basic",
+            Word::Form => b"form",
+            Word::Enter => b"enter",
         }
     }
 
@@ -25,6 +35,16 @@ impl Word {
     {
         if is_same(field, b"account") {
             Some(Word::Account)
+        } else if is_same(field, b"enrol") {
+            Some(Word::Enrol)
+        } else if is_same(field, b"notice") {
+            Some(Word::Notice)
+        } else if is_same(field, b"basic") {
+            Some(Word::Basic)
+        } else if is_same(field, b"form") {
+            Some(Word::Form)
+        } else if is_same(field, b"enter") {
+            Some(Word::Enter)
         } else {
             None
         }

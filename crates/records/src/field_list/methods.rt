@@ -96,9 +96,10 @@ impl FieldList {
         self.commas
     }
 
-    /// How many fields there are.
+    /// How many fields there are: from 1 to 40.
     pub fn count(&self) -> usize
-        ensures { result ≡ length (fields_of self.now) }
+        ensures number { result ≡ length (fields_of self.now) }
+        ensures range { (1 ≤ result) × (result ≤ 40) }
     {
         self.last() + 1
     }
