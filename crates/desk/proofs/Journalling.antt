@@ -11,7 +11,7 @@ use Rattle.journal.specs.Page.{Nothing, noted, Page}
 use Rattle.journal.specs.Worlds.{Ends, Reached, called, between, ReachedAtOnce}
 use Rattle.desk.specs.Carrying.{Sets}
 use Rattle.desk.specs.Calls.{Asked, set_account, on_book, call_in}
-use Rattle.desk.specs.Journalling.{Adds, no_call, account_set, book_called, Writes, over, next, broken, WrittenFor, Journalled, table_end, ends_around, credits_of}
+use Rattle.desk.specs.Journalling.{Adds, no_call, account_set, book_called, over, next, broken, WrittenFor, Journalled, table_end, ends_around, credits_of}
 use Rattle.desk.specs.Serving as serving
 use Rattle.desk.specs.Serving.{RepliedTo, Served}
 use Rattle.desk.specs.declared.reply.Reply.{Reply}

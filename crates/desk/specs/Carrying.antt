@@ -1,5 +1,5 @@
 -- What each call answers, and what it makes of the book and the account table.
-use Rattle.std.specs.Prelude.{◌≡◌, ℕ, cond, List, Ok, Err, Option, Result, ◌==◌, nat_le}
+use Rattle.std.specs.Prelude.{◌≡◌, ℕ, cond, List, Option, Result, ◌==◌, nat_le}
 use Rattle.measures.specs.Answers.{unless, Answered, done_or}
 use Rattle.measures.specs.declared.answer.Answer.{Answer}
 use Rattle.measures.specs.declared.refusal.Refusal.{Refusal}

@@ -1,5 +1,5 @@
 -- The inputs of a record: the numbers in its fields after the word.
-use Rattle.std.specs.Prelude.{ℕ, List, [], ◌∷◌, take, drop, Some, None, Option}
+use Rattle.std.specs.Prelude.{ℕ, List, [], ◌∷◌, take, drop, Some, Option}
 use Rattle.std.specs.List.{slice_get}
 use Rattle.std.specs.Option.{option_map}
 use Rattle.measures.specs.Optional.{from}
