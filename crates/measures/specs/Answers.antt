@@ -2,8 +2,6 @@
 use Rattle.std.specs.Prelude.{◌≡◌, ℕ, Bool, cond, pos, Some, None, Ok, Err, Option, Result}
 use Rattle.measures.specs.declared.refusal.Refusal.{Refusal}
 use Rattle.measures.specs.declared.refusal.Refusal.TheVariants.{Unlisted, AlreadyEnrolled, OutOfRange, BeforeBookDay, WrongStanding, BadWeights, BadAccounts, LimitPassed, TableFull, BadText, TooLong, NoCall}
-use Rattle.measures.specs.declared.answer.Answer.{Answer}
-use Rattle.measures.specs.declared.answer.Answer.TheVariants.{Done, Refused}
 use Rattle.measures.specs.declared.answer.Row.{Row}
 
 -- the number of a refusal
@@ -22,28 +20,15 @@ number_of TooLong = 20
 number_of NoCall = 21
 
 -- the numbers that a record shows for an answer: the refusal's number or 0, then two values
-abbrev pub row_of : Answer → Row
-row_of Done = record { refusal = 0; first = pos 0; second = pos 0 }
-row_of (Refused refusal) = record { refusal = number_of refusal; first = pos 0; second = pos 0 }
-
--- the answer of a call that has nothing to report
-abbrev pub done_or : {A : Type 0} → Result A Refusal → Answer
-done_or (Ok x) = Done
-done_or (Err refusal) = Refused refusal
+abbrev pub row_of : {A : Type 0} → Result A Refusal → Row
+row_of (Ok x) = record { refusal = 0; first = pos 0; second = pos 0 }
+row_of (Err refusal) = record { refusal = number_of refusal; first = pos 0; second = pos 0 }
 
 -- a reason unless the test holds, and then the next reason, if there is one
-abbrev pub unless : Bool → Refusal → Option Refusal → Option Refusal
+abbrev pub unless : {R : Type 0} → Bool → R → Option R → Option R
 unless test reason next = cond test next (Some reason)
 
 -- a call is carried out if there is no reason against it; else it is refused for the first, and what it was made on is as it was
-abbrev pub Answered : {A S : Type 0} → Option Refusal → Result A Refusal → S → S → (A → Type 0) → Type 0
+abbrev pub Answered : {A R S : Type 0} → Option R → Result A R → S → S → (A → Type 0) → Type 0
 Answered reason (Ok x) before after carried_out = (reason ≡ None) × carried_out x
 Answered reason (Err e) before after carried_out = (reason ≡ Some e) × (after ≡ before)
-
--- the same chain and the same meaning for reasons of any type
-abbrev pub unless_of : {R : Type 0} → Bool → R → Option R → Option R
-unless_of test reason next = cond test next (Some reason)
-
-abbrev pub AnsweredBy : {A R S : Type 0} → Option R → Result A R → S → S → (A → Type 0) → Type 0
-AnsweredBy reason (Ok x) before after carried_out = (reason ≡ None) × carried_out x
-AnsweredBy reason (Err e) before after carried_out = (reason ≡ Some e) × (after ≡ before)

@@ -1,4 +1,3 @@
 pub mod Answers
 pub mod Measures
-pub mod Optional
 pub mod Rounding

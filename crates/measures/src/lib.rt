@@ -9,7 +9,7 @@ mod rounding;
 
 pub use answer::{Answer, Row};
 pub use measure::{Cents, Kwh, Millicents, Rate, SignedCents, SignedMillicents, SignedRate};
-pub use number::{AccountNumber, ClassNumber, Day, UnitNumber};
+pub use number::{AccountNumber, ClassNumber, Day, Ranged, UnitNumber};
 pub use refusal::Refusal;
 pub use rounding::{rounded_down, rounded_to_nearest, rounded_toward_zero};
 

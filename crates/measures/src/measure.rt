@@ -2,16 +2,14 @@
 // A measure carries no range: a call takes any number and tests it.
 // An amount that is never negative has the unsigned type of its measure; one that may be has the signed type beside it.
 ghost use Rattle.std.specs.Prelude.{◌≡◌};
-ghost use Rattle.measures.specs.Measures.{is_rate};
+ghost use Rattle.measures.specs.Measures.{highest_rate};
 ghost use Rattle.measures.specs.Rounding.{down, whole_cents, fraction};
 
+use crate::number::Ranged;
 use crate::rounding::rounded_down;
 
 /// The millicents of a cent.
 const MILLICENTS_OF_A_CENT: u64 = 1000;
-
-/// The highest rate that an operator may give.
-const HIGHEST_RATE: u64 = 100_000;
 
 /// Energy, in whole kilowatt-hours.
 #[derive(Clone, Copy, PartialEq, Eq, Debug)]
@@ -22,7 +20,7 @@ pub struct Kwh(pub u64);
 pub struct Rate(pub u64);
 
 /// A rate that may be negative: a unit's net rate, or a class factor.
-#[derive(Clone, Copy)]
+#[derive(Clone, Copy, PartialEq, Eq, Debug)]
 pub struct SignedRate(pub i64);
 
 /// Money, in whole cents.
@@ -38,15 +36,23 @@ pub struct SignedCents(pub i64);
 pub struct Millicents(pub u64);
 
 /// Millicents that may be negative: what a class was billed.
-#[derive(Clone, Copy)]
+#[derive(Clone, Copy, PartialEq, Eq, Debug)]
 pub struct SignedMillicents(pub i64);
 
-impl Rate {
-    /// Whether an operator may give this rate.
-    pub fn is_in_range(self) -> bool
-        ensures { result ≡ is_rate self.0 }
-    {
-        self.0 <= HIGHEST_RATE
+// The range of a rate that an operator gives.
+impl Ranged for Rate {
+    ghost FIRST = { 0 };
+
+    ghost LAST = { highest_rate };
+
+    ghost number = { λ rate. rate.0 };
+
+    const FIRST: u64 = 0;
+
+    const LAST: u64 = 100_000;
+
+    fn number(self) -> u64 {
+        self.0
     }
 }
 
@@ -71,9 +77,6 @@ impl SignedMillicents {
     pub fn whole_cents(self) -> SignedCents
         ensures { result.0 ≡ down self.0 1000 }
     {
-        match rounded_down(self.0, MILLICENTS_OF_A_CENT) {
-            Some(cents) => SignedCents(cents),
-            None => unreachable(),
-        }
+        SignedCents(rounded_down(self.0, MILLICENTS_OF_A_CENT).unwrap())
     }
 }

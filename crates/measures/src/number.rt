@@ -1,67 +1,112 @@
-// The numbers that name a thing or a day. None carries a range: a call takes any number and tests it.
-ghost use Rattle.std.specs.Prelude.{◌≡◌};
-ghost use Rattle.measures.specs.Measures.{is_account, is_class, is_day, is_unit};
+// The numbers that name a thing or a day, and what has a range. None carries its range: a call takes any number and tests it.
+ghost use Rattle.std.specs.Prelude.{◌≡◌, ℕ};
+ghost use Rattle.measures.specs.Measures.{in_range, last_account, last_class, last_day, last_unit};
 
-/// The last account number; the first is 1.
-const LAST_ACCOUNT: u64 = 99_999_999_999;
+/// A number that lies in a range or not.
+pub trait Ranged: Copy {
+    /// The first number of the range.
+    ghost FIRST: { ℕ };
 
-/// The last unit number; the first is 0.
-const LAST_UNIT: u64 = 31;
+    /// The last number of the range.
+    ghost LAST: { ℕ };
 
-/// The last class number; the first is 0.
-const LAST_CLASS: u64 = 7;
+    /// The number itself.
+    ghost number: { Self → ℕ };
 
-/// The last day; day 0 is 1 January 2018.
-const LAST_DAY: u64 = 36_524;
+    const FIRST: u64;
+
+    const LAST: u64;
+
+    /// The number itself.
+    fn number(self) -> u64
+        ensures { result ≡ number self };
+
+    /// Whether this number lies in its range.
+    final fn is_in_range(self) -> bool
+        ensures { result ≡ in_range FIRST LAST (number self) }
+    {
+        (Self::FIRST..=Self::LAST).contains(&self.number())
+    }
+}
 
 /// The number of an account at a billing end.
-#[derive(Clone, Copy)]
+#[derive(Clone, Copy, PartialEq, Eq, Debug)]
 pub struct AccountNumber(pub u64);
 
 /// The number of a solar unit in the book.
-#[derive(Clone, Copy)]
+#[derive(Clone, Copy, PartialEq, Eq, Debug)]
 pub struct UnitNumber(pub u64);
 
 /// The number of a rate class.
-#[derive(Clone, Copy)]
+#[derive(Clone, Copy, PartialEq, Eq, Debug)]
 pub struct ClassNumber(pub u64);
 
 /// A day, counted from 1 January 2018.
-#[derive(Clone, Copy)]
+#[derive(Clone, Copy, PartialEq, Eq, PartialOrd, Ord, Debug)]
 pub struct Day(pub u64);
 
-impl AccountNumber {
-    /// Whether there may be an account of this number.
-    pub fn is_in_range(self) -> bool
-        ensures { result ≡ is_account self.0 }
-    {
-        1 <= self.0 && self.0 <= LAST_ACCOUNT
+impl Ranged for AccountNumber {
+    ghost FIRST = { 1 };
+
+    ghost LAST = { last_account };
+
+    ghost number = { λ account. account.0 };
+
+    const FIRST: u64 = 1;
+
+    const LAST: u64 = 99_999_999_999;
+
+    fn number(self) -> u64 {
+        self.0
     }
 }
 
-impl UnitNumber {
-    /// Whether the book has a place for this unit.
-    pub fn is_in_range(self) -> bool
-        ensures { result ≡ is_unit self.0 }
-    {
-        self.0 <= LAST_UNIT
+// The book has places for 32 units.
+impl Ranged for UnitNumber {
+    ghost FIRST = { 0 };
+
+    ghost LAST = { last_unit };
+
+    ghost number = { λ unit. unit.0 };
+
+    const FIRST: u64 = 0;
+
+    const LAST: u64 = 31;
+
+    fn number(self) -> u64 {
+        self.0
     }
 }
 
-impl ClassNumber {
-    /// Whether there is a class of this number.
-    pub fn is_in_range(self) -> bool
-        ensures { result ≡ is_class self.0 }
-    {
-        self.0 <= LAST_CLASS
+// There are eight rate classes.
+impl Ranged for ClassNumber {
+    ghost FIRST = { 0 };
+
+    ghost LAST = { last_class };
+
+    ghost number = { λ class. class.0 };
+
+    const FIRST: u64 = 0;
+
+    const LAST: u64 = 7;
+
+    fn number(self) -> u64 {
+        self.0
     }
 }
 
-impl Day {
-    /// Whether the book knows this day.
-    pub fn is_in_range(self) -> bool
-        ensures { result ≡ is_day self.0 }
-    {
-        self.0 <= LAST_DAY
+impl Ranged for Day {
+    ghost FIRST = { 0 };
+
+    ghost LAST = { last_day };
+
+    ghost number = { λ day. day.0 };
+
+    const FIRST: u64 = 0;
+
+    const LAST: u64 = 36_524;
+
+    fn number(self) -> u64 {
+        self.0
     }
 }

@@ -1,6 +1,6 @@
 // The roundings and the ranges, by example.
 use crate::measure::{Millicents, Rate, SignedMillicents};
-use crate::number::{AccountNumber, ClassNumber, Day, UnitNumber};
+use crate::number::{AccountNumber, ClassNumber, Day, Ranged, UnitNumber};
 use crate::rounding::{rounded_down, rounded_to_nearest, rounded_toward_zero};
 
 #[test]
