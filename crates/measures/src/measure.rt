@@ -16,7 +16,7 @@ const MILLICENTS_OF_A_CENT: u64 = 1000;
 pub struct Kwh(pub u64);
 
 /// A price of energy, in thousandths of a cent per kilowatt-hour.
-#[derive(Clone, Copy, PartialEq, Eq, Debug)]
+#[derive(Clone, Copy, PartialEq, Eq, Default, Debug)]
 pub struct Rate(pub u64);
 
 /// A rate that may be negative: a unit's net rate, or a class factor.
@@ -24,11 +24,11 @@ pub struct Rate(pub u64);
 pub struct SignedRate(pub i64);
 
 /// Money, in whole cents.
-#[derive(Clone, Copy, PartialEq, Eq, Debug)]
+#[derive(Clone, Copy, PartialEq, Eq, Default, Debug)]
 pub struct Cents(pub u64);
 
 /// Cents that may be negative: a balance, or a share of one.
-#[derive(Clone, Copy, PartialEq, Eq, Debug)]
+#[derive(Clone, Copy, PartialEq, Eq, Default, Debug)]
 pub struct SignedCents(pub i64);
 
 /// Money, in thousandths of a cent ($0.00001).

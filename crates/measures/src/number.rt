@@ -30,7 +30,7 @@ pub trait Ranged: Copy {
 }
 
 /// The number of an account at a billing end.
-#[derive(Clone, Copy, PartialEq, Eq, Debug)]
+#[derive(Clone, Copy, PartialEq, Eq, Default, Debug)]
 pub struct AccountNumber(pub u64);
 
 /// The number of a solar unit in the book.
