@@ -1,7 +1,6 @@
 -- What a record is answered, and the record that says so.
-use Rattle.std.specs.Prelude.{◌≡◌, ℕ, List, [], ◌∷◌, ◌++◌, pos, Some, None, codes, Option}
+use Rattle.std.specs.Prelude.{◌≡◌, ℕ, List, [], ◌∷◌, ◌++◌, pos, Some, None, Err, codes, Option}
 use Rattle.measures.specs.Answers.{row_of}
-use Rattle.measures.specs.declared.answer.Answer.TheVariants.{Refused}
 use Rattle.measures.specs.declared.refusal.Refusal.{Refusal}
 use Rattle.measures.specs.declared.refusal.Refusal.TheVariants.{BadText, TooLong}
 use Rattle.records.specs.Grammar.{Record}
@@ -20,7 +19,7 @@ refusal_of too_long = TooLong
 
 -- the reply to a record that asks for no call
 abbrev pub unread : Refusal → Reply
-unread refusal = record { word = None; answer = Refused refusal }
+unread refusal = record { word = None; answer = Err refusal }
 
 -- the word that a reply shows: a question mark where there is none
 abbrev pub word_shown : Option Word → List ℕ

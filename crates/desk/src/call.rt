@@ -1,35 +1,42 @@
 // The calls that a record can ask for.
-ghost use Rattle.std.specs.Prelude.{◌≡◌};
+ghost use Rattle.std.specs.Prelude.{◌≡◌, ok_or};
+ghost use Rattle.measures.specs.declared.refusal.Refusal.TheVariants.{NoCall};
 ghost use Rattle.records.specs.FieldLists.{fields_of};
-ghost use Rattle.desk.specs.Calls.{call_in, account_in, input_in, word_of};
+ghost use Rattle.desk.specs.Calls.{account_in, call_in, input_in, word_of};
 
 use crate::word::Word;
 use ends::AccountNumber;
+use measures::Refusal;
 use records::{FieldList, number};
 
 /// A call, with its inputs as the record gives them.
-#[derive(Clone, Copy)]
+#[derive(Clone, Copy, PartialEq, Eq, Debug)]
 pub enum Call {
     /// Opens an account if the flag is 1, and closes it if the flag is 0.
     Account { number: AccountNumber, flag: u64 },
 }
 
 impl Call {
-    /// The call that a record asks for, if it asks for one.
-    pub fn from_fields(fields: &FieldList) -> Option<Call>
-        ensures { result ≡ call_in (fields_of fields.now) }
-    {
-        match Word::from_field(fields.field(0)?)? {
-            Word::Account => account(fields),
-        }
-    }
-
     /// The word of this call.
     pub(crate) fn word(self) -> Word
         ensures { result ≡ word_of self }
     {
         match self {
             Call::Account { .. } => Word::Account,
+        }
+    }
+}
+
+// The call that a record asks for, if it asks for one.
+impl TryFrom<&FieldList> for Call {
+    type Error = Refusal;
+
+    ghost try_from_gives = { λ fields call. call ≡ ok_or (call_in (fields_of fields.now)) NoCall };
+
+    fn try_from(fields: &FieldList) -> Result<Call, Refusal> {
+        let word = fields.field(0).ok_or(Refusal::NoCall)?;
+        match Word::try_from(word)? {
+            Word::Account => account(fields).ok_or(Refusal::NoCall),
         }
     }
 }

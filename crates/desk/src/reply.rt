@@ -5,14 +5,14 @@ ghost use Rattle.desk.specs.Lines.{Short, Spells, numeral};
 ghost use Rattle.desk.specs.Replies.{Shows, unread, word_shown, refusal_of};
 
 use crate::word::Word;
-use measures::{Answer, Refusal};
+use measures::{Answer, Refusal, Row};
 use records::{Decimal, Fault, write_record};
 
 /// The most bytes of an answer record with its CRLF.
 const LINE_BYTES: usize = 80;
 
 /// What a record is answered: the word of its call, or none where it asks for no call, and the call's answer.
-#[derive(Clone, Copy)]
+#[derive(Clone, Copy, PartialEq, Eq, Debug)]
 pub struct Reply {
     pub word: Option<Word>,
     pub answer: Answer,
@@ -33,17 +33,7 @@ impl Reply {
     {
         Reply {
             word: None,
-            answer: Answer::Refused(refusal),
-        }
-    }
-
-    /// The reply at a fault of the text.
-    pub(crate) fn at_fault(fault: Fault) -> Reply
-        ensures { result ≡ unread (refusal_of fault) }
-    {
-        match fault {
-            Fault::BadText => Reply::unread(Refusal::BadText),
-            Fault::TooLong => Reply::unread(Refusal::TooLong),
+            answer: Err(refusal),
         }
     }
 
@@ -51,7 +41,7 @@ impl Reply {
     pub fn line(self) -> Line
         ensures { Shows self (take result.len result.bytes) }
     {
-        let row = self.answer.row();
+        let row = Row::from(self.answer);
         let refusal = Decimal::new(i64::from(row.refusal));
         let first = Decimal::new(row.first);
         let second = Decimal::new(row.second);
@@ -65,6 +55,18 @@ impl Reply {
         match self.word {
             Some(word) => word.name(),
             None => b"?",
+        }
+    }
+}
+
+// The reply at a fault of the text.
+impl From<Fault> for Reply {
+    ghost from_gives = { λ fault reply. reply ≡ unread (refusal_of fault) };
+
+    fn from(fault: Fault) -> Reply {
+        match fault {
+            Fault::BadText => Reply::unread(Refusal::BadText),
+            Fault::TooLong => Reply::unread(Refusal::TooLong),
         }
     }
 }

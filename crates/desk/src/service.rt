@@ -8,11 +8,10 @@ ghost use Rattle.desk.specs.Serving.{Concludes, Continues, Ends, Replied, Turns,
 use crate::call::Call;
 use crate::reply::Reply;
 use ends::AccountTable;
-use measures::Refusal;
 use records::{Event, Reader};
 
 /// What a part of the text came to.
-#[derive(Clone, Copy)]
+#[derive(Clone, Copy, PartialEq, Eq, Debug)]
 pub enum Turn {
     /// All of it was taken in, and no record ended in it.
     More,
@@ -53,7 +52,7 @@ impl Desk {
                 used: progress.used,
                 reply: self.reply(),
             },
-            Event::Fault(fault) => Turn::End(Reply::at_fault(fault)),
+            Event::Fault(fault) => Turn::End(Reply::from(fault)),
         }
     }
 
@@ -65,7 +64,7 @@ impl Desk {
         match self.reader.finish() {
             Event::More => None,
             Event::Record => Some(self.reply()),
-            Event::Fault(fault) => Some(Reply::at_fault(fault)),
+            Event::Fault(fault) => Some(Reply::from(fault)),
         }
     }
 
@@ -74,12 +73,12 @@ impl Desk {
         ensures reader { self.new.reader ≡ self.old.reader }
         ensures replied { Replied (fields_of self.old.reader.fields) self.old.table result self.new.table }
     {
-        match Call::from_fields(self.reader.fields()) {
-            Some(call) => Reply {
+        match Call::try_from(self.reader.fields()) {
+            Ok(call) => Reply {
                 word: Some(call.word()),
                 answer: call.carry_out(&mut self.table),
             },
-            None => Reply::unread(Refusal::NoCall),
+            Err(refusal) => Reply::unread(refusal),
         }
     }
 }

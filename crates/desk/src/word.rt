@@ -1,10 +1,12 @@
 // The words that name the calls in a record.
-ghost use Rattle.std.specs.Prelude.{◌≡◌};
-ghost use Rattle.std.specs.Str.{bytes_eq};
+ghost use Rattle.std.specs.Prelude.{◌≡◌, ok_or};
+ghost use Rattle.measures.specs.declared.refusal.Refusal.TheVariants.{NoCall};
 ghost use Rattle.desk.specs.Words.{name_of, word_in};
 
+use measures::Refusal;
+
 /// The word of a call.
-#[derive(Clone, Copy)]
+#[derive(Clone, Copy, PartialEq, Eq, Debug)]
 pub enum Word {
     Account,
 }
@@ -18,22 +20,18 @@ impl Word {
             Word::Account => b"account",
         }
     }
-
-    /// The word that a field holds, if it holds one.
-    pub(crate) fn from_field(field: &[u8]) -> Option<Word>
-        ensures { result ≡ word_in field.now }
-    {
-        if is_same(field, b"account") {
-            Some(Word::Account)
-        } else {
-            None
-        }
-    }
 }
 
-// Whether two texts are the same.
-fn is_same(field: &[u8], name: &[u8]) -> bool
-    ensures { result ≡ bytes_eq field.now name.now }
-{
-    field == name
+// The word that a field holds, if it holds one.
+impl TryFrom<&[u8]> for Word {
+    type Error = Refusal;
+
+    ghost try_from_gives = { λ field word. word ≡ ok_or (word_in field.now) NoCall };
+
+    fn try_from(field: &[u8]) -> Result<Word, Refusal> {
+        match field {
+            b"account" => Ok(Word::Account),
+            _ => Err(Refusal::NoCall),
+        }
+    }
 }
