@@ -1,12 +1,12 @@
 -- The line of a word and three numbers can always be written.
-use Rattle.std.proofs.Common.{◌≡◌, ℕ, ◌≤◌, true, List, [], ◌∷◌, ◌++◌, length, take, drop, ℤ, pos, Some, None, Option, sym, refl, ap, ◌∙◌, subst, arith}
+use Rattle.std.proofs.Common.{◌≡◌, ℕ, ◌≤◌, true, List, [], ◌∷◌, ◌++◌, length, take, drop, ℤ, pos, Some, None, Ok, Err, Option, Result, IsOk, sym, refl, ap, ◌∙◌, subst, arith}
 use Rattle.std.proofs.lemmas.List.{length-append, take_at}
 use Rattle.std.proofs.lemmas.Bool.{and_parts, and_from}
 use Rattle.std.proofs.lemmas.Bool.Decides.{nat_tests}
 use Rattle.records.specs.Grammar.{every, plain_byte, text_byte, Record}
 use Rattle.records.proofs.Lengths.{length_spelled_plain}
 use Rattle.records.proofs.Reasons.{length_whole, writable}
-use Rattle.records.specs.Writing.{spelled, comma_spelled, line, whole, all_text, unwritable, Refused, Written}
+use Rattle.records.specs.Writing.{spelled, comma_spelled, line, whole, all_text, unwritable, Refused, Written, Wrote}
 use Rattle.records.specs.declared.writer.Unwritable.{Unwritable}
 use Rattle.records.specs.Numbers.{decimal_of, Writes}
 use Rattle.measures.specs.Answers.{row_of}
@@ -56,7 +56,7 @@ module _ (word refusal first second refusal' first' second' : List ℕ) (same_re
   same_fields : (word ∷ (refusal' ∷ (first' ∷ (second' ∷ [])))) ≡ (word ∷ (refusal ∷ (first ∷ (second ∷ []))))
   same_fields = cc
 
-  pub never_refused : (before after : List ℕ) (why : Unwritable) → length before ≡ 80 → length word ≤ 8 → every plain_byte word ≡ true → Short refusal → Short first → Short second
+  never_refused : (before after : List ℕ) (why : Unwritable) → length before ≡ 80 → length word ≤ 8 → every plain_byte word ≡ true → Short refusal → Short first → Short second
       → Refused (word ∷ (refusal' ∷ (first' ∷ (second' ∷ [])))) before why after → ⊥
   never_refused before after why room few plain hr hf hs r =
       let none : unwritable (word ∷ (refusal ∷ (first ∷ (second ∷ [])))) 80 ≡ None = line_writable word refusal first second few plain hr hf hs in
@@ -64,12 +64,19 @@ module _ (word refusal first second refusal' first' second' : List ℕ) (same_re
       ap (λ x. unwritable x 80) (sym same_fields) ∙ ap (unwritable (word ∷ (refusal' ∷ (first' ∷ (second' ∷ []))))) (sym room) ∙ r.reason in
       let z : ◌≡◌ {A = ℕ} 0 1 = none_some none some in omega arith
 
-  pub spelled_out : (before after : List ℕ) (n : ℕ) → Written (word ∷ (refusal' ∷ (first' ∷ (second' ∷ [])))) before n after → Spells (take n after) word refusal first second
-  spelled_out before after n r =
+  pub always_written : (before after : List ℕ) (r : Result ℕ Unwritable) → length before ≡ 80 → length word ≤ 8 → every plain_byte word ≡ true → Short refusal → Short first → Short second
+      → Wrote (word ∷ (refusal' ∷ (first' ∷ (second' ∷ [])))) before r after → IsOk r
+  always_written before after (Ok n) room few plain hr hf hs h = refl
+  always_written before after (Err why) room few plain hr hf hs h = absurd (never_refused before after why room few plain hr hf hs h)
+
+  pub spelled_out : (before after bytes : List ℕ) (r : Result ℕ Unwritable) (n : ℕ) → Wrote (word ∷ (refusal' ∷ (first' ∷ (second' ∷ [])))) before r after → r ≡ Ok n → bytes ≡ take n after
+      → Spells bytes word refusal first second
+  spelled_out before after bytes r n h is shown =
       let fields = word ∷ (refusal' ∷ (first' ∷ (second' ∷ []))) in
+      let w : Written fields before n after = subst (λ x. Wrote fields before x after) is h in
       record {
-        exact = ap (take n) r.buffer ∙ take_at (whole fields) (drop n before) n (sym r.count) ∙ ap whole same_fields;
-        reads_back = λ rest. subst (λ x. Record (take n after ++ rest) x rest) same_fields (r.reads_back rest);
+        exact = shown ∙ ap (take n) w.buffer ∙ take_at (whole fields) (drop n before) n (sym w.count) ∙ ap whole same_fields;
+        reads_back = λ rest. subst (λ x. Record (x ++ rest) (word ∷ (refusal ∷ (first ∷ (second ∷ [])))) rest) (sym shown) (subst (λ x. Record (take n after ++ rest) x rest) same_fields (w.reads_back rest));
       }
 
 -- every word is short and plain

@@ -1,10 +1,11 @@
 // What a record is answered, and the record that says so.
-ghost use Rattle.std.specs.Prelude.{◌≡◌, ◌≤◌, true, length, take};
+ghost use Rattle.std.specs.Prelude.{◌≡◌, ◌≤◌, true, length};
 ghost use Rattle.records.specs.Grammar.{every, plain_byte};
 ghost use Rattle.desk.specs.Lines.{Short, Spells, numeral};
 ghost use Rattle.desk.specs.Replies.{Shows, unread, word_shown, refusal_of};
 
 use crate::word::Word;
+use arrayvec::ArrayVec;
 use measures::{Answer, Refusal, Row};
 use records::{Decimal, Fault, write_record};
 
@@ -21,9 +22,7 @@ pub struct Reply {
 /// An answer record with its CRLF.
 #[derive(Drop)]
 pub struct Line {
-    bytes: [u8; LINE_BYTES],
-    len: usize,
-    ghost within: { len ≤ 80 },
+    bytes: ArrayVec<u8, LINE_BYTES>,
 }
 
 impl Reply {
@@ -39,7 +38,7 @@ impl Reply {
 
     /// The record that shows this reply: the word, the refusal's number or 0, and two values.
     pub fn line(self) -> Line
-        ensures { Shows self (take result.len result.bytes) }
+        ensures { Shows self (result.bytes.items) }
     {
         let row = Row::from(self.answer);
         let refusal = Decimal::new(i64::from(row.refusal));
@@ -80,7 +79,7 @@ fn write_line<'a>(
 ) -> Line
     requires short { (length word.now ≤ 8) × (every plain_byte word.now ≡ true) }
     requires numbers { (Short (numeral refusal.now)) × ((Short (numeral first.now)) × (Short (numeral second.now))) }
-    ensures { Spells (take result.len result.bytes) word.now (numeral refusal.now) (numeral first.now) (numeral second.now) }
+    ensures { Spells (result.bytes.items) word.now (numeral refusal.now) (numeral first.now) (numeral second.now) }
 {
     let fields: [&[u8]; 4] = [
         word,
@@ -88,19 +87,18 @@ fn write_line<'a>(
         first.as_bytes(),
         second.as_bytes(),
     ];
-    let mut bytes = [0; LINE_BYTES];
-    match write_record(&fields, &mut bytes) {
-        Ok(len) => Line { bytes, len },
-        Err(_) => unreachable(),
-    }
+    let mut places = [0; LINE_BYTES];
+    let len = write_record(&fields, &mut places).unwrap();
+    let mut bytes = ArrayVec::from(places);
+    bytes.truncate(len);
+    Line { bytes }
 }
 
 impl Line {
     /// The bytes of the line.
     pub fn as_bytes(&self) -> &[u8]
-        ensures { result.now ≡ take self.now.len self.now.bytes }
+        ensures { result.now ≡ self.now.bytes.items }
     {
-        let (line, _) = self.bytes.split_at(self.len);
-        line
+        self.bytes.as_slice()
     }
 }

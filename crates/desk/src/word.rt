@@ -29,9 +29,10 @@ impl TryFrom<&[u8]> for Word {
     ghost try_from_gives = { λ field word. word ≡ ok_or (word_in field.now) NoCall };
 
     fn try_from(field: &[u8]) -> Result<Word, Refusal> {
-        match field {
-            b"account" => Ok(Word::Account),
-            _ => Err(Refusal::NoCall),
+        if field == Word::Account.name() {
+            Ok(Word::Account)
+        } else {
+            Err(Refusal::NoCall)
         }
     }
 }

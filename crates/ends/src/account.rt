@@ -15,7 +15,7 @@ const MOST_CREDIT: u64 = 1_000_000_000_000;
 const MOST_IN_ONE_POSTING: u64 = 10_000_000_000;
 
 /// The number of an account. It carries no range: a call takes any number and tests it.
-#[derive(Clone, Copy)]
+#[derive(Clone, Copy, PartialEq, Eq, Debug)]
 pub struct AccountNumber(pub u64);
 
 impl AccountNumber {

@@ -15,12 +15,12 @@ write_line-requires c =
 
 pub returns : goal.returns
 returns c =
-    let row = c.row-row.result in
+    let row = c.from-row.result in
     let first_fits : SFits w64 row.first = search rules in
     let refusal_fits : SFits w64 c.from.result = search rules in
     let second_fits : SFits w64 row.second = search rules in
     shows_reply c.args.self row _ c.shown.result.now (numeral c.new-refusal.result) (numeral c.new-first.result) (numeral c.new-second.result)
-    c.write_line.ensures c.row-row.ensures c.shown.ensures
+    c.write_line.ensures c.from-row.ensures c.shown.ensures
     (c.new-refusal.ensures.exact ∙ ap decimal_of (to_z-of_z w64 c.from.result refusal_fits ∙ c.from.ensures))
     (c.new-first.ensures.exact ∙ ap decimal_of (to_z-of_z w64 row.first first_fits))
     (c.new-second.ensures.exact ∙ ap decimal_of (to_z-of_z w64 row.second second_fits))

@@ -16,5 +16,5 @@ returns-in-Record c =
 pub returns-in-Fault : goal.returns-in-Fault
 returns-in-Fault c =
     let ended = end_fault c.args.self.now _ c.finish.result c.finish.new.self refl c.finish.ensures
-    c.in-Fault.fault c.at_fault.result c.at_fault.ensures c.in-Fault.is refl in
+    c.in-Fault.fault c.from.result c.from.ensures c.in-Fault.is refl in
     record { turn = ended; law = concludes c.args.self.now _ _ ended }

@@ -16,5 +16,5 @@ returns-in-Record c =
 pub returns-in-Fault : goal.returns-in-Fault
 returns-in-Fault c =
     let turned = turn_fault c.args.self.now _ c.args.part.now c.read-progress.result c.read-progress.new.self refl c.read-progress.ensures
-    c.in-Fault.fault c.at_fault.result c.at_fault.ensures c.in-Fault.is refl in
+    c.in-Fault.fault c.from.result c.from.ensures c.in-Fault.is refl in
     record { turn = turned; law = continues c.args.self.now _ c.args.part.now _ turned; bounds = turns_within c.args.self.now _ c.args.part.now _ turned }
