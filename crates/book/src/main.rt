@@ -30,13 +30,13 @@ fn main(rt: HostRuntime) -> io::Result<()> {
 
 // Hands a chunk on, and writes the reply to each record that ends in it; answers whether there is more to read.
 fn serve(desk: &mut Desk, chunk: &[u8], output: &mut impl Write) -> io::Result<bool> {
-    let mut from = 0;
-    while from < chunk.len() {
-        match desk.take_in(&chunk[from..]) {
+    let mut rest = chunk;
+    while !rest.is_empty() {
+        match desk.take_in(rest) {
             Turn::More => return Ok(true),
             Turn::Reply { used, reply } => {
                 output.write_all(reply.line().as_bytes())?;
-                from += used;
+                rest = &rest[used..];
             }
             Turn::End(reply) => {
                 output.write_all(reply.line().as_bytes())?;
