@@ -1,7 +1,8 @@
 -- A list of accounts: what it shows of each account number, and what opening, closing and posting make of it.
 use Rattle.std.specs.Prelude.{ℕ, ◌+◌, ◌-◌, min, Bool, true, false, cond, not, ◌&&◌, List, [], ◌∷◌, ◌++◌, is_some, Some, None, Option, ◌==◌, nat_le}
 use Rattle.ends.specs.declared.account.Account.{Account}
-use Rattle.ends.specs.Limits.{in_range, most_credit, most_at_once}
+use Rattle.ends.specs.Limits.{most_credit, most_at_once}
+use Rattle.measures.specs.Measures.{is_account}
 
 -- the account of a number, if it is listed
 abbrev pub found : List Account → ℕ → Option Account
@@ -59,7 +60,7 @@ posted accounts n cents = changed accounts n (raised cents)
 
 -- whether an account has an account number, and at most 10^12 cents of credit
 abbrev pub sound : Account → Bool
-sound a = in_range a.number.0 && nat_le a.credit.0 most_credit
+sound a = is_account a.number.0 && nat_le a.credit.0 most_credit
 
 -- whether every account of the list is sound
 abbrev pub all_sound : List Account → Bool

@@ -5,7 +5,7 @@ use Rattle.std.proofs.lemmas.Bool.{cases_Bool, eqb-true, eqb-false, eq-eqb, ne_e
 use Rattle.ends.specs.declared.account.Account.{Account}
 use Rattle.ends.specs.declared.table.AccountTable.{AccountTable}
 use Rattle.ends.specs.Accounts.{found, replaced, sound, all_sound, credit_of, reach, reach_of, posted, raised}
-use Rattle.ends.specs.Limits.{in_range}
+use Rattle.measures.specs.Measures.{is_account}
 use Rattle.ends.specs.Postings.{Posting, takes}
 use Rattle.ends.specs.Tables.{Posts, listed}
 
@@ -31,12 +31,12 @@ found_named (x ∷ rest) n a h =
     ]
 
 -- nothing is found by a number that is out of range
-pub found_outside : (xs : List Account) (n : ℕ) → all_sound xs ≡ true → in_range n ≡ false → found xs n ≡ None
+pub found_outside : (xs : List Account) (n : ℕ) → all_sound xs ≡ true → is_account n ≡ false → found xs n ≡ None
 found_outside [] n h out = refl
 found_outside (x ∷ rest) n h out =
     let parts = and_parts (sound x) (all_sound rest) h in
     elim (cases_Bool (x.number.0 == n)) [
-      | inl e ↦ absurd (both_ways (in_range n) out (subst (λ k. in_range k ≡ true) (eqb-true x.number.0 n e) (and_parts (in_range x.number.0) _ parts.0).0))
+      | inl e ↦ absurd (both_ways (is_account n) out (subst (λ k. is_account k ≡ true) (eqb-true x.number.0 n e) (and_parts (is_account x.number.0) _ parts.0).0))
       | inr e ↦ simp e (found_outside rest n parts.1 out)
     ]
 
@@ -89,7 +89,7 @@ posted_credits xs n cents = by_found (found xs n) refl
         absurd (omega (arith, leb-true 1 cents parts.0, leb-true cents 0 parts.1))
 
 -- a number that is out of range has no credit and no reach
-pub none_outside : (xs : List Account) (n : ℕ) → all_sound xs ≡ true → in_range n ≡ false → (credit_of xs n ≡ 0) × (reach_of xs n ≡ 0)
+pub none_outside : (xs : List Account) (n : ℕ) → all_sound xs ≡ true → is_account n ≡ false → (credit_of xs n ≡ 0) × (reach_of xs n ≡ 0)
 none_outside xs n h out = (ap credit_in (found_outside xs n h out), ap reach_in (found_outside xs n h out))
 
 -- however the table goes on at a posting, this is what a posting means

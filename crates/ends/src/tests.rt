@@ -3,10 +3,9 @@ ghost use Rattle.std.specs.Prelude.{◌≡◌, ◌+◌};
 ghost use Rattle.ends.specs.Postings.{Posting};
 ghost use Rattle.std.proofs.Common.{rules};
 
-use crate::account::AccountNumber;
 use crate::billing_end::BillingEnd;
 use crate::table::AccountTable;
-use measures::{Cents, Refusal};
+use measures::{AccountNumber, Cents, Refusal};
 
 // An end that takes nothing. It settles no more than what a posting means, and takes that for its relation.
 #[derive(Drop)]

@@ -3,8 +3,8 @@ ghost use Rattle.std.specs.Prelude.{◌≡◌, []};
 ghost use Rattle.ends.specs.Tables.{Closes, Opens, listed};
 
 use super::{AccountTable, MAX_ACCOUNTS};
-use crate::account::{Account, AccountNumber};
-use measures::{Cents, Refusal};
+use crate::account::Account;
+use measures::{AccountNumber, Cents, Ranged, Refusal};
 
 impl AccountTable {
     /// A table that lists no account.

@@ -6,7 +6,8 @@ ghost use Rattle.ends.specs.Places.{Stands, place};
 ghost use Rattle.ends.specs.Tables.{listed};
 
 use super::AccountTable;
-use crate::account::{Account, AccountNumber};
+use crate::account::Account;
+use measures::AccountNumber;
 
 impl AccountTable {
     /// Where the account of a number stands, if it is listed.

@@ -4,9 +4,9 @@ ghost use Rattle.ends.specs.Tables.{Posts, listed};
 ghost use Rattle.ends.specs.Meaning.{none_outside, posts_mean};
 
 use super::AccountTable;
-use crate::account::{Account, AccountNumber};
+use crate::account::Account;
 use crate::billing_end::BillingEnd;
-use measures::Cents;
+use measures::{AccountNumber, Cents};
 
 impl BillingEnd for AccountTable {
     ghost credits = { λ t n. credit_of (listed t) n };
