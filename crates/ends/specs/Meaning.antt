@@ -1,10 +1,13 @@
 -- What is found in a list after one account is replaced, and so what a posting to the table means.
-use Rattle.std.specs.Prelude.{◌≡◌, ℕ, ◌+◌, Bool, true, false, cond, List, [], ◌∷◌, Some, None, Option, ◌==◌, nat_eq, nat_le, refl}
+use Rattle.std.specs.Prelude.{◌≡◌, ℕ, ◌+◌, ◌<◌, Bool, true, false, cond, List, [], ◌∷◌, length, Some, None, Option, ◌==◌, nat_le, refl, slice_get, slice_index_or}
 use Rattle.std.proofs.Common.{arith, inl, inr, sym, ap, subst, ◌∙◌}
 use Rattle.std.proofs.lemmas.Bool.{cases_Bool, eqb-true, eqb-false, eq-eqb, ne_eqb, and_parts, both_ways, leb-true, true≢false, cond-true, cond-false}
+use Rattle.std.proofs.lemmas.List.Folds.{find_at, find-set, find_past}
+use Rattle.std.proofs.lemmas.List.Sums.{passes_at_first}
+use Rattle.std.proofs.lemmas.Option.{slice_get_within, get_or_from_slice_get}
 use Rattle.ends.specs.declared.account.Account.{Account}
 use Rattle.ends.specs.declared.table.AccountTable.{AccountTable}
-use Rattle.ends.specs.Accounts.{found, replaced, sound, all_sound, credit_of, reach, reach_of, posted, raised}
+use Rattle.ends.specs.Accounts.{has_number, found, place, replaced, sound, all_sound, credit_of, reach, reach_of, posted, raised}
 use Rattle.measures.specs.Measures.{is_account}
 use Rattle.ends.specs.Postings.{Posting, takes}
 use Rattle.ends.specs.Tables.{Posts, listed}
@@ -19,16 +22,17 @@ abbrev reach_in : Option Account → ℕ
 reach_in (Some a) = reach a
 reach_in None = 0
 
+-- what is found stands at the place of its number
+pub found_there : (xs : List Account) (n : ℕ) (a : Account) → found xs n ≡ Some a → (place xs n < length xs) × (slice_index_or xs (place xs n) a ≡ a)
+found_there xs n a is =
+    let there : slice_get xs (place xs n) ≡ Some a = sym (find_at (has_number n) xs) ∙ is in
+    (slice_get_within xs (place xs n) a there, get_or_from_slice_get xs (place xs n) a a there)
+
 -- what is found has the number that it was looked for by
 pub found_named : (xs : List Account) (n : ℕ) (a : Account) → found xs n ≡ Some a → a.number.0 ≡ n
-found_named [] n a h = absurd (let z : ◌≡◌ {A = ℕ} 0 1 = cc in omega arith)
-found_named (x ∷ rest) n a h =
-    elim (cases_Bool (x.number.0 == n)) [
-      | inl e ↦ let same : Some x ≡ Some a = simp e at h in
-          let is : x ≡ a = cc in
-          ap (λ (y : Account). y.number.0) (sym is) ∙ eqb-true x.number.0 n e
-      | inr e ↦ found_named rest n a (simp e at h)
-    ]
+found_named xs n a is =
+    let there = found_there xs n a is in
+    eqb-true a.number.0 n (subst (λ (b : Account). has_number n b ≡ true) there.1 (passes_at_first (has_number n) xs a there.0))
 
 -- nothing is found by a number that is out of range
 pub found_outside : (xs : List Account) (n : ℕ) → all_sound xs ≡ true → is_account n ≡ false → found xs n ≡ None
@@ -42,26 +46,16 @@ found_outside (x ∷ rest) n h out =
 
 -- after a replacement the new account is found by its number, and by any other number what was found before
 pub found_replaced : (xs : List Account) (n m : ℕ) (a b : Account) → found xs n ≡ Some a → b.number.0 ≡ n → found (replaced xs n b) m ≡ cond (m == n) (Some b) (found xs m)
-found_replaced [] n m a b h same = absurd (let z : ◌≡◌ {A = ℕ} 0 1 = cc in omega arith)
-found_replaced (x ∷ rest) n m a b h same =
-    elim (cases_Bool (x.number.0 == n)) [
-      | inl e ↦
-          let was : x.number.0 ≡ n = eqb-true x.number.0 n e in
-          elim (cases_Bool (m == n)) [
-            | inl f ↦ let g : nat_eq b.number.0 m ≡ true = eq-eqb b.number.0 m (same ∙ sym (eqb-true m n f)) in simp (e, f, g)
-            | inr f ↦
-                let g : nat_eq b.number.0 m ≡ false = ne_eqb b.number.0 m (λ q. eqb-false m n f (sym q ∙ same)) in
-                let k : nat_eq x.number.0 m ≡ false = ne_eqb x.number.0 m (λ q. eqb-false m n f (sym q ∙ was)) in
-                simp (e, f, g, k)
-          ]
-      | inr e ↦
-          let next : found (replaced rest n b) m ≡ cond (m == n) (Some b) (found rest m) = found_replaced rest n m a b (simp e at h) same in
-          elim (cases_Bool (m == n)) [
-            | inl f ↦
-                let k : nat_eq x.number.0 m ≡ false = ne_eqb x.number.0 m (λ q. eqb-false x.number.0 n e (q ∙ eqb-true m n f)) in
-                simp (e, f, k) (next ∙ simp f)
-            | inr f ↦ simp (e, f) (ap (cond (x.number.0 == m) (Some x)) (next ∙ simp f))
-          ]
+found_replaced xs n m a b is same =
+    let there = found_there xs n a is in
+    let named = found_named xs n a is in
+    elim (cases_Bool (m == n)) [
+      | inl f ↦
+          let new : found (replaced xs n b) n ≡ Some b = find-set (has_number n) xs (place xs n) b refl there.0 (eq-eqb b.number.0 n same) in
+          simp f (ap (found (replaced xs n b)) (eqb-true m n f) ∙ new)
+      | inr f ↦
+          let other : (c : Account) → c.number.0 ≡ n → has_number m c ≡ false = λ c e. ne_eqb c.number.0 m (λ q. eqb-false m n f (sym q ∙ e)) in
+          simp f (find_past (has_number m) xs (place xs n) b a (subst (λ c. has_number m c ≡ false) (sym there.1) (other a named)) (other b same))
     ]
 
 -- the credits after a posting that a listed account takes

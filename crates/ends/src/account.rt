@@ -1,6 +1,6 @@
 // The accounts that are credited, by their numbers.
 ghost use Rattle.std.specs.Prelude.{◌≡◌, ◌≤◌};
-ghost use Rattle.ends.specs.Accounts.{fresh, reach, with_open};
+ghost use Rattle.ends.specs.Accounts.{fresh, reach};
 ghost use Rattle.ends.specs.Limits.{most_credit};
 
 use measures::{AccountNumber, Cents};
@@ -12,7 +12,7 @@ const MOST_CREDIT: u64 = 1_000_000_000_000;
 const MOST_IN_ONE_POSTING: u64 = 10_000_000_000;
 
 /// An account of the table: its credit, and whether it takes postings.
-#[derive(Clone, Copy)]
+#[derive(Clone, Copy, Default)]
 pub(crate) struct Account {
     pub(crate) number: AccountNumber,
     pub(crate) credit: Cents,
@@ -29,13 +29,6 @@ impl Account {
             credit: Cents(0),
             open: true,
         }
-    }
-
-    /// This account, open or closed, with its credit.
-    pub(crate) fn with_open(self, open: bool) -> Self
-        ensures { result ≡ with_open «open» self }
-    {
-        Account { open, ..self }
     }
 
     /// The most that this account takes in one posting.

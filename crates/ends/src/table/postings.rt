@@ -4,7 +4,6 @@ ghost use Rattle.ends.specs.Tables.{Posts, listed};
 ghost use Rattle.ends.specs.Meaning.{none_outside, posts_mean};
 
 use super::AccountTable;
-use crate::account::Account;
 use crate::billing_end::BillingEnd;
 use measures::{AccountNumber, Cents};
 
@@ -30,15 +29,10 @@ impl BillingEnd for AccountTable {
         let Some(i) = self.find(account) else {
             return false;
         };
-        let credited = self.accounts[i];
-        if cents.0 < 1 || cents.0 > credited.reach().0 {
+        if cents.0 < 1 || cents.0 > self.accounts[i].reach().0 {
             return false;
         }
-        let raised = Account {
-            credit: Cents(credited.credit.0 + cents.0),
-            ..credited
-        };
-        self.replace(i, raised);
+        self.accounts[i].credit.0 += cents.0;
         true
     }
 }
