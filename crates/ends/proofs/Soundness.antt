@@ -14,15 +14,14 @@ use Rattle.ends.specs.Tables.{listed}
 refill_set : (xs : List Account) (i : ℕ) (b : Account) → refill (length xs) xs (set xs i b) ≡ set xs i b
 refill_set xs i b = take_at (set xs i b) (drop (length (set xs i b)) xs) (length xs) (length-set xs i b)
 
--- the listed accounts after the one at a place was changed, through the slice ys that shows them
-pub sound_after : (t : AccountTable) (ys : List Account) (i : ℕ) (change : Account → Account) → ys ≡ listed t → sound (change (account_at t i)) ≡ true
-    → all_sound (refill (length (listed t)) (listed t) (set ys i (change (get_or ys i no_account)))) ≡ true
-sound_after t ys i change shown holds =
+-- the accounts stay sound if one is written, through the slice ys that shows them, that is sound if the one in its place was
+pub sound_write : (t : AccountTable) (ys : List Account) (i : ℕ) (b : Account) → ys ≡ listed t → sound (account_at t i) ≡ true → (sound (get_or ys i no_account) ≡ true → sound b ≡ true)
+    → all_sound (refill (length (listed t)) (listed t) (set ys i b)) ≡ true
+sound_write t ys i b shown was_sound stays =
     let xs = listed t in
-    let b = change (account_at t i) in
+    let holds : sound b ≡ true = stays (subst (λ zs. sound (get_or zs i no_account) ≡ true) (sym shown) was_sound) in
     let kept : all_sound (set xs i b) ≡ true = list_all-from_AllPass sound (set xs i b) (All-set (λ a. sound a ≡ true) xs i b holds (AllPass-from_list_all sound xs t.bounded)) in
-    subst (λ zs. all_sound (refill (length xs) xs (set zs i (change (get_or zs i no_account)))) ≡ true) (sym shown)
-    (subst (λ zs. all_sound zs ≡ true) (sym (refill_set xs i b)) kept)
+    subst (λ zs. all_sound (refill (length xs) xs (set zs i b)) ≡ true) (sym shown) (subst (λ zs. all_sound zs ≡ true) (sym (refill_set xs i b)) kept)
 
 -- an account that takes cents within its reach keeps its credit within the bound
 pub sound_raised : (a : Account) (cents : ℕ) → sound a ≡ true → cents ≤ reach a → sound (raised cents a) ≡ true
