@@ -1,6 +1,6 @@
 -- Where an account stands in a list.
-use Rattle.std.proofs.Common.{◌≡◌, ℕ, ◌<◌, ◌≤◌, true, false, ltb, List, length, get_or, Some, None, Option, sym, refl, ap, ◌∙◌, subst, arith, rules}
-use Rattle.std.specs.List.{position, position_or_len, find}
+use Rattle.std.proofs.Common.{◌≡◌, ℕ, ◌<◌, ◌≤◌, ltb, List, length, get_or, Some, None, refl, ◌∙◌}
+use Rattle.std.specs.List.{position}
 use Rattle.std.proofs.lemmas.Bool.{cond_both, eqb-true, ltb-true, ltb-false}
 use Rattle.std.proofs.lemmas.List.Folds.{find_at}
 use Rattle.std.proofs.lemmas.List.Sums.{passes_at_first, AllPass-from_list_all}

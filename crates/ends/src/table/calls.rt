@@ -42,9 +42,7 @@ impl AccountTable {
         if !number.is_in_range() {
             return Err(Refusal::OutOfRange);
         }
-        let Some(i) = self.find(number) else {
-            return Err(Refusal::Unlisted);
-        };
+        let i = self.find(number).ok_or(Refusal::Unlisted)?;
         self.accounts[i].open = false;
         Ok(())
     }

@@ -29,7 +29,8 @@ impl BillingEnd for AccountTable {
         let Some(i) = self.find(account) else {
             return false;
         };
-        if cents.0 < 1 || cents.0 > self.accounts[i].reach().0 {
+        let reach = self.accounts[i].reach();
+        if !(1..=reach.0).contains(&cents.0) {
             return false;
         }
         self.accounts[i].credit.0 += cents.0;

@@ -5,4 +5,4 @@ use Rattle.ends.proofs.table.AccountTable.close.Goals as goal
 
 pub invariant_of-self-clause-bounded : goal.invariant_of-self-clause-bounded
 invariant_of-self-clause-bounded c =
-    sound_write c.args.self.now c.deref_mut.result.now c.in-Some.i _ c.deref_mut.ensures.value c.in-Some.ensures.holds (λ was. search rules)
+    sound_write c.args.self.now c.deref_mut.result.now c.in_ok-i.i _ c.deref_mut.ensures.value (search rules) (λ was. search rules)
