@@ -1,14 +1,14 @@
 -- Where an account stands in a list.
-use Rattle.std.proofs.Common.{◌≡◌, ℕ, ◌<◌, ◌≤◌, ltb, List, length, get_or, Some, None, refl, ◌∙◌}
+use Rattle.std.proofs.Common.{◌≡◌, ℕ, ◌<◌, ◌≤◌, ltb, List, length, get_or, Some, None, refl, ◌∙◌, arith, rules}
 use Rattle.std.specs.List.{position}
-use Rattle.std.proofs.lemmas.Bool.{cond_both, eqb-true, ltb-true, ltb-false}
+use Rattle.std.proofs.lemmas.Bool.{cond_both, ltb-true, ltb-false}
 use Rattle.std.proofs.lemmas.List.Folds.{find_at}
 use Rattle.std.proofs.lemmas.List.Sums.{passes_at_first, AllPass-from_list_all}
 use Rattle.std.proofs.lemmas.Option.{slice_get-get_or, slice_get_past}
 use Rattle.ends.specs.declared.account.Account.{Account}
 use Rattle.ends.specs.declared.table.AccountTable.{AccountTable}
-use Rattle.ends.specs.Accounts.{found, place, has_number, sound}
-use Rattle.ends.specs.Places.{no_account, account_at, StandsAt, Stands}
+use Rattle.ends.specs.Accounts.{found, place, has_number}
+use Rattle.ends.specs.Places.{no_account, StandsAt, Stands}
 use Rattle.ends.specs.Tables.{listed}
 
 -- what is found is what stands at the place, if that lies within the list
@@ -25,8 +25,8 @@ stands_at_place t n within = record {
   within = within;
   first = refl;
   there = found_within (listed t) n within;
-  named = eqb-true (account_at t (place (listed t) n)).number.0 n (passes_at_first (has_number n) (listed t) no_account within);
-  holds = AllPass-from_list_all sound (listed t) t.bounded (place (listed t) n) no_account within;
+  named = grind (arith, passes_at_first (has_number n) (listed t) no_account);
+  holds = search (rules, AllPass-from_list_all);
 }
 
 -- the first place at which an account of that number is met is where it stands
