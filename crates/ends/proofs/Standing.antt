@@ -12,15 +12,15 @@ use Rattle.ends.specs.Places.{no_account, StandsAt, Stands}
 use Rattle.ends.specs.Tables.{listed}
 
 -- what is found is what stands at the place, if that lies within the list
-pub found_within : (xs : List Account) (n : ℕ) → place xs n < length xs → found xs n ≡ Some (get_or xs (place xs n) no_account)
+found_within : (xs : List Account) (n : ℕ) → place xs n < length xs → found xs n ≡ Some (get_or xs (place xs n) no_account)
 found_within xs n within = find_at (has_number n) xs ∙ slice_get-get_or xs (place xs n) no_account within
 
 -- nothing is found if the place is past the end
-pub found_past : (xs : List Account) (n : ℕ) → length xs ≤ place xs n → found xs n ≡ None
+found_past : (xs : List Account) (n : ℕ) → length xs ≤ place xs n → found xs n ≡ None
 found_past xs n past = find_at (has_number n) xs ∙ slice_get_past xs (place xs n) past
 
 -- an account that stands at its place
-pub stands_at_place : (t : AccountTable) (n : ℕ) → place (listed t) n < length (listed t) → StandsAt t n (place (listed t) n)
+stands_at_place : (t : AccountTable) (n : ℕ) → place (listed t) n < length (listed t) → StandsAt t n (place (listed t) n)
 stands_at_place t n within = record {
   within = within;
   first = refl;

@@ -1,4 +1,5 @@
 -- What is found in a list after one account is replaced, and so what a posting to the table means.
+-- These are lemmas: they stand here because the account table's impl names them.
 use Rattle.std.specs.Prelude.{◌≡◌, ℕ, ◌+◌, ◌<◌, Bool, true, false, cond, List, [], ◌∷◌, length, Some, None, Option, ◌==◌, refl, slice_get, slice_index_or}
 use Rattle.std.proofs.Common.{arith, sym, ap, ◌∙◌}
 use Rattle.std.proofs.lemmas.Bool.{true≢false}
@@ -23,7 +24,7 @@ reach_in (Some a) = reach a
 reach_in None = 0
 
 -- what is found stands at the place of its number
-pub found_there : (xs : List Account) (n : ℕ) (a : Account) → found xs n ≡ Some a → (place xs n < length xs) × (slice_index_or xs (place xs n) a ≡ a)
+found_there : (xs : List Account) (n : ℕ) (a : Account) → found xs n ≡ Some a → (place xs n < length xs) × (slice_index_or xs (place xs n) a ≡ a)
 found_there xs n a is =
     let there : slice_get xs (place xs n) ≡ Some a = sym (find_at (has_number n) xs) ∙ is in
     (slice_get_within xs (place xs n) a there, get_or_from_slice_get xs (place xs n) a a there)

@@ -6,6 +6,7 @@ use measures::AccountNumber;
 
 impl AccountTable {
     /// Where the account of a number stands, if it is listed.
+    // Its place, and no reference from `iter_mut().find(..)`: of what a search that finds nothing leaves there is no proof.
     pub(super) fn find(&self, number: AccountNumber) -> Option<usize>
         ensures { Stands self.now number.0 result }
     {
