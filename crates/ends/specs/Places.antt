@@ -5,7 +5,7 @@ use Rattle.ends.specs.declared.table.AccountTable.{AccountTable}
 use Rattle.ends.specs.Accounts.{found, place, sound}
 use Rattle.ends.specs.Tables.{listed}
 
--- what stands where no account was ever listed
+-- what a read past the listed accounts would give: an account of number 0, closed and without credit
 abbrev pub no_account : Account
 no_account = record { number = record { 0 = 0 }; credit = record { 0 = 0 }; «open» = false }
 

@@ -8,15 +8,15 @@ use crate::billing_end::BillingEnd;
 use measures::{AccountNumber, Cents};
 
 impl BillingEnd for AccountTable {
-    ghost credits = { λ t n. credit_of (listed t) n };
+    ghost credits = { λ t. credit_of (listed t) };
 
-    ghost reaches = { λ t n. reach_of (listed t) n };
+    ghost reaches = { λ t. reach_of (listed t) };
 
     ghost posts = { Posts };
 
-    ghost outside = { λ t n out. none_outside (listed t) n t.bounded out };
+    ghost outside = { λ t n. none_outside (listed t) n t.bounded };
 
-    ghost meaning = { λ t account cents taken t' posts. posts_mean t account cents taken t' posts };
+    ghost meaning = { posts_mean };
 
     fn credit(&self, account: AccountNumber) -> Cents {
         match self.find(account) {
