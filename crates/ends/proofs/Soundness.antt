@@ -1,31 +1,29 @@
--- What is known of every listed account stays known.
-use Rattle.std.proofs.Common.{◌≡◌, ℕ, zero, suc, ◌+◌, ◌<◌, true, ◌&&◌, List, [], ◌∷◌, ◌++◌, length, get_or, drop, set, sym, refl, ◌∙◌, arith}
-use Rattle.std.proofs.lemmas.List.{at_drop_more}
-use Rattle.std.proofs.lemmas.Bool.{and_parts, and_from}
+-- What is known of every listed account stays known when one of them is written to.
+use Rattle.std.proofs.Common.{◌≡◌, ℕ, ◌<◌, ◌≤◌, true, List, length, length-set, get_or, set, drop, sym, subst, arith}
+use Rattle.std.specs.List.{AllPass, refill}
+use Rattle.std.proofs.lemmas.List.{take_at}
+use Rattle.std.proofs.lemmas.List.Elements.{All-set}
+use Rattle.std.proofs.lemmas.List.Sums.{AllPass-from_list_all, list_all-from_AllPass}
 use Rattle.ends.specs.declared.account.Account.{Account}
-use Rattle.ends.specs.Accounts.{sound, all_sound, blank, all_blank}
+use Rattle.ends.specs.declared.table.AccountTable.{AccountTable}
+use Rattle.ends.specs.Accounts.{reach, raised, sound, all_sound}
 use Rattle.ends.specs.Places.{no_account}
+use Rattle.ends.specs.Tables.{listed}
 
-pub all_sound_set : (xs : List Account) (i : ℕ) (b : Account) → all_sound xs ≡ true → sound b ≡ true → all_sound (set xs i b) ≡ true
-all_sound_set [] i b h k = refl
-all_sound_set (x ∷ xs) zero b h k = and_from (sound b) (all_sound xs) k (and_parts (sound x) (all_sound xs) h).1
-all_sound_set (x ∷ xs) (suc i) b h k =
-    let parts = and_parts (sound x) (all_sound xs) h in
-    and_from (sound x) (all_sound (set xs i b)) parts.0 (all_sound_set xs i b parts.1 k)
+-- a slice that is written to keeps its length, so all of it is written back
+refill_set : (xs : List Account) (i : ℕ) (b : Account) → refill (length xs) xs (set xs i b) ≡ set xs i b
+refill_set xs i b = take_at (set xs i b) (drop (length (set xs i b)) xs) (length xs) (length-set xs i b)
 
-pub all_sound_push : (xs : List Account) (b : Account) → all_sound xs ≡ true → sound b ≡ true → all_sound (xs ++ (b ∷ [])) ≡ true
-all_sound_push [] b h k = and_from (sound b) true k refl
-all_sound_push (x ∷ xs) b h k =
-    let parts = and_parts (sound x) (all_sound xs) h in
-    and_from (sound x) (all_sound (xs ++ (b ∷ []))) parts.0 (all_sound_push xs b parts.1 k)
+-- the accounts stay sound if one is written, through the slice ys that shows them, that is sound if the one in its place was
+pub sound_write : (t : AccountTable) (ys : List Account) (i : ℕ) (b : Account) → ys ≡ listed t → i < length (listed t) → (sound (get_or ys i no_account) ≡ true → sound b ≡ true)
+    → all_sound (refill (length (listed t)) (listed t) (set ys i b)) ≡ true
+sound_write t ys i b shown within stays =
+    let xs = listed t in
+    let all : AllPass sound xs = AllPass-from_list_all sound xs t.bounded in
+    let holds : sound b ≡ true = stays (subst (λ zs. sound (get_or zs i no_account) ≡ true) (sym shown) (all i no_account within)) in
+    let kept : all_sound (set xs i b) ≡ true = list_all-from_AllPass sound (set xs i b) (All-set (λ a. sound a ≡ true) xs i b holds all) in
+    subst (λ zs. all_sound (refill (length xs) xs (set zs i b)) ≡ true) (sym shown) (subst (λ zs. all_sound zs ≡ true) (sym (refill_set xs i b)) kept)
 
-pub sound_at : (xs : List Account) (i : ℕ) (d : Account) → all_sound xs ≡ true → i < length xs → sound (get_or xs i d) ≡ true
-sound_at [] i d h k = absurd (omega arith)
-sound_at (x ∷ xs) zero d h k = (and_parts (sound x) (all_sound xs) h).0
-sound_at (x ∷ xs) (suc i) d h k = sound_at xs i d (and_parts (sound x) (all_sound xs) h).1 (omega arith)
-
--- nothing stands past the listed accounts, and so past one more
-pub all_blank_past : (xs : List Account) (i : ℕ) → i < length xs → all_blank (drop i xs) ≡ true → all_blank (drop (i + 1) xs) ≡ true
-all_blank_past xs i within h =
-    let here : all_blank (drop i xs) ≡ (blank (get_or xs i no_account) && all_blank (drop (i + 1) xs)) = at_drop_more all_blank xs i no_account within in
-    (and_parts (blank (get_or xs i no_account)) (all_blank (drop (i + 1) xs)) (sym here ∙ h)).1
+-- an account that takes cents within its reach keeps its credit within the bound
+pub sound_raised : (a : Account) (cents : ℕ) → sound a ≡ true → cents ≤ reach a → sound (raised cents a) ≡ true
+sound_raised a cents holds within = grind arith

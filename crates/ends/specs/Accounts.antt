@@ -1,12 +1,21 @@
 -- A list of accounts: what it shows of each account number, and what opening, closing and posting make of it.
-use Rattle.std.specs.Prelude.{ℕ, ◌+◌, ◌-◌, min, Bool, true, false, cond, not, ◌&&◌, List, [], ◌∷◌, ◌++◌, is_some, Some, None, Option, ◌==◌, nat_le}
+use Rattle.std.specs.Prelude.{ℕ, ◌+◌, ◌-◌, min, Bool, true, false, cond, ◌&&◌, List, [], ◌∷◌, ◌++◌, is_some, Some, None, Option, ◌==◌, nat_le, slice_set}
+use Rattle.std.specs.List.{find, list_all, position_or_len}
 use Rattle.ends.specs.declared.account.Account.{Account}
-use Rattle.ends.specs.Limits.{in_range, most_credit, most_at_once}
+use Rattle.ends.specs.Limits.{most_credit, most_at_once}
+use Rattle.measures.specs.Measures.{is_account}
+
+-- whether an account has this number
+abbrev pub has_number : ℕ → Account → Bool
+has_number n a = a.number.0 == n
 
 -- the account of a number, if it is listed
 abbrev pub found : List Account → ℕ → Option Account
-found [] n = None
-found (a ∷ rest) n = cond (a.number.0 == n) (Some a) (found rest n)
+found accounts n = find (has_number n) accounts
+
+-- how many accounts stand before the one of that number; all of them, if it is not listed
+abbrev pub place : List Account → ℕ → ℕ
+place accounts n = position_or_len (has_number n) accounts
 
 -- whether the account of a number is listed
 abbrev pub is_listed : List Account → ℕ → Bool
@@ -26,8 +35,7 @@ reach_of accounts n = elim (found accounts n) [ Some a ↦ reach a | None ↦ 0 
 
 -- the accounts, with another in the place of the one of that number
 abbrev pub replaced : List Account → ℕ → Account → List Account
-replaced [] n b = []
-replaced (a ∷ rest) n b = cond (a.number.0 == n) (b ∷ rest) (a ∷ replaced rest n b)
+replaced accounts n b = slice_set accounts (place accounts n) b
 
 -- the accounts, with the one of that number changed
 abbrev pub changed : List Account → ℕ → (Account → Account) → List Account
@@ -59,18 +67,8 @@ posted accounts n cents = changed accounts n (raised cents)
 
 -- whether an account has an account number, and at most 10^12 cents of credit
 abbrev pub sound : Account → Bool
-sound a = in_range a.number.0 && nat_le a.credit.0 most_credit
+sound a = is_account a.number.0 && nat_le a.credit.0 most_credit
 
 -- whether every account of the list is sound
 abbrev pub all_sound : List Account → Bool
-all_sound [] = true
-all_sound (a ∷ rest) = sound a && all_sound rest
-
--- whether nothing stands in a place
-abbrev pub blank : Account → Bool
-blank a = a.number.0 == 0 && (a.credit.0 == 0 && not a.«open»)
-
--- whether nothing stands in any place of the list
-abbrev pub all_blank : List Account → Bool
-all_blank [] = true
-all_blank (a ∷ rest) = blank a && all_blank rest
+all_sound accounts = list_all sound accounts

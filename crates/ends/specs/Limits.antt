@@ -1,13 +1,5 @@
--- The limits of account numbers, of the table and of credit.
-use Rattle.std.specs.Prelude.{ℕ, ◌^◌, Bool, ◌&&◌, nat_le}
-
--- the last account number; the first is 1
-abbrev pub last_account : ℕ
-last_account = 99999999999
-
--- whether n is an account number
-abbrev pub in_range : ℕ → Bool
-in_range n = nat_le 1 n && nat_le n last_account
+-- The limits of the table and of credit.
+use Rattle.std.specs.Prelude.{ℕ, ◌^◌}
 
 -- the most accounts that a table lists
 abbrev pub most_accounts : ℕ

@@ -1,11 +1,15 @@
 -- What is found in a list after one account is replaced, and so what a posting to the table means.
-use Rattle.std.specs.Prelude.{◌≡◌, ℕ, ◌+◌, Bool, true, false, cond, List, [], ◌∷◌, Some, None, Option, ◌==◌, nat_eq, nat_le, refl}
-use Rattle.std.proofs.Common.{arith, inl, inr, sym, ap, subst, ◌∙◌}
-use Rattle.std.proofs.lemmas.Bool.{cases_Bool, eqb-true, eqb-false, eq-eqb, ne_eqb, and_parts, both_ways, leb-true, true≢false, cond-true, cond-false}
+-- These are lemmas: they stand here because the account table's impl names them.
+use Rattle.std.specs.Prelude.{◌≡◌, ℕ, ◌+◌, ◌<◌, Bool, true, false, cond, List, [], ◌∷◌, length, Some, None, Option, ◌==◌, refl, slice_get, slice_index_or}
+use Rattle.std.proofs.Common.{arith, sym, ap, ◌∙◌}
+use Rattle.std.proofs.lemmas.Bool.{true≢false}
+use Rattle.std.proofs.lemmas.List.Folds.{find_at, find-set, find_past}
+use Rattle.std.proofs.lemmas.List.Sums.{passes_at_first}
+use Rattle.std.proofs.lemmas.Option.{slice_get_within, get_or_from_slice_get}
 use Rattle.ends.specs.declared.account.Account.{Account}
 use Rattle.ends.specs.declared.table.AccountTable.{AccountTable}
-use Rattle.ends.specs.Accounts.{found, replaced, sound, all_sound, credit_of, reach, reach_of, posted, raised}
-use Rattle.ends.specs.Limits.{in_range}
+use Rattle.ends.specs.Accounts.{has_number, found, place, replaced, all_sound, credit_of, reach, reach_of, posted, raised}
+use Rattle.measures.specs.Measures.{is_account}
 use Rattle.ends.specs.Postings.{Posting, takes}
 use Rattle.ends.specs.Tables.{Posts, listed}
 
@@ -19,64 +23,33 @@ abbrev reach_in : Option Account → ℕ
 reach_in (Some a) = reach a
 reach_in None = 0
 
+-- what is found stands at the place of its number
+found_there : (xs : List Account) (n : ℕ) (a : Account) → found xs n ≡ Some a → (place xs n < length xs) × (slice_index_or xs (place xs n) a ≡ a)
+found_there xs n a is =
+    let there : slice_get xs (place xs n) ≡ Some a = sym (find_at (has_number n) xs) ∙ is in
+    (slice_get_within xs (place xs n) a there, get_or_from_slice_get xs (place xs n) a a there)
+
 -- what is found has the number that it was looked for by
 pub found_named : (xs : List Account) (n : ℕ) (a : Account) → found xs n ≡ Some a → a.number.0 ≡ n
-found_named [] n a h = absurd (let z : ◌≡◌ {A = ℕ} 0 1 = cc in omega arith)
-found_named (x ∷ rest) n a h =
-    elim (cases_Bool (x.number.0 == n)) [
-      | inl e ↦ let same : Some x ≡ Some a = simp e at h in
-          let is : x ≡ a = cc in
-          ap (λ (y : Account). y.number.0) (sym is) ∙ eqb-true x.number.0 n e
-      | inr e ↦ found_named rest n a (simp e at h)
-    ]
+found_named xs n a is =
+    let there = found_there xs n a is in
+    grind (arith, passes_at_first (has_number n) xs a)
 
 -- nothing is found by a number that is out of range
-pub found_outside : (xs : List Account) (n : ℕ) → all_sound xs ≡ true → in_range n ≡ false → found xs n ≡ None
+pub found_outside : (xs : List Account) (n : ℕ) → all_sound xs ≡ true → is_account n ≡ false → found xs n ≡ None
 found_outside [] n h out = refl
-found_outside (x ∷ rest) n h out =
-    let parts = and_parts (sound x) (all_sound rest) h in
-    elim (cases_Bool (x.number.0 == n)) [
-      | inl e ↦ absurd (both_ways (in_range n) out (subst (λ k. in_range k ≡ true) (eqb-true x.number.0 n e) (and_parts (in_range x.number.0) _ parts.0).0))
-      | inr e ↦ simp e (found_outside rest n parts.1 out)
-    ]
+found_outside (x ∷ rest) n h out = grind (arith, found_outside rest n)
 
 -- after a replacement the new account is found by its number, and by any other number what was found before
 pub found_replaced : (xs : List Account) (n m : ℕ) (a b : Account) → found xs n ≡ Some a → b.number.0 ≡ n → found (replaced xs n b) m ≡ cond (m == n) (Some b) (found xs m)
-found_replaced [] n m a b h same = absurd (let z : ◌≡◌ {A = ℕ} 0 1 = cc in omega arith)
-found_replaced (x ∷ rest) n m a b h same =
-    elim (cases_Bool (x.number.0 == n)) [
-      | inl e ↦
-          let was : x.number.0 ≡ n = eqb-true x.number.0 n e in
-          elim (cases_Bool (m == n)) [
-            | inl f ↦ let g : nat_eq b.number.0 m ≡ true = eq-eqb b.number.0 m (same ∙ sym (eqb-true m n f)) in simp (e, f, g)
-            | inr f ↦
-                let g : nat_eq b.number.0 m ≡ false = ne_eqb b.number.0 m (λ q. eqb-false m n f (sym q ∙ same)) in
-                let k : nat_eq x.number.0 m ≡ false = ne_eqb x.number.0 m (λ q. eqb-false m n f (sym q ∙ was)) in
-                simp (e, f, g, k)
-          ]
-      | inr e ↦
-          let next : found (replaced rest n b) m ≡ cond (m == n) (Some b) (found rest m) = found_replaced rest n m a b (simp e at h) same in
-          elim (cases_Bool (m == n)) [
-            | inl f ↦
-                let k : nat_eq x.number.0 m ≡ false = ne_eqb x.number.0 m (λ q. eqb-false x.number.0 n e (q ∙ eqb-true m n f)) in
-                simp (e, f, k) (next ∙ simp f)
-            | inr f ↦ simp (e, f) (ap (cond (x.number.0 == m) (Some x)) (next ∙ simp f))
-          ]
-    ]
+found_replaced xs n m a b is same =
+    let there = found_there xs n a is in
+    let named = found_named xs n a is in
+    grind (arith, find-set (has_number n) xs (place xs n) b, find_past (has_number m) xs (place xs n) b a)
 
 -- the credits after a posting that a listed account takes
 raised_credits : (xs : List Account) (n cents : ℕ) (a : Account) → found xs n ≡ Some a → (m : ℕ) → credit_of (replaced xs n (raised cents a)) m ≡ credit_of xs m + cond (m == n) cents 0
-raised_credits xs n cents a is m =
-    let after = found_replaced xs n m a (raised cents a) is (found_named xs n a is) in
-    elim (cases_Bool (m == n)) [
-      | inl f ↦
-          let there : credit_of (replaced xs n (raised cents a)) m ≡ a.credit.0 + cents = ap credit_in (after ∙ cond-true (m == n) (Some (raised cents a)) (found xs m) f) in
-          let was : credit_of xs m ≡ a.credit.0 = ap credit_in (ap (found xs) (eqb-true m n f) ∙ is) in
-          simp f (omega arith)
-      | inr f ↦
-          let there : credit_of (replaced xs n (raised cents a)) m ≡ credit_of xs m = ap credit_in (after ∙ cond-false (m == n) (Some (raised cents a)) (found xs m) f) in
-          simp f (omega arith)
-    ]
+raised_credits xs n cents a is m = grind (arith, found_replaced xs n m a (raised cents a), found_named xs n a)
 
 -- a posting that is taken raises that credit by its cents, and no other
 pub posted_credits : (xs : List Account) (n cents : ℕ) → takes (reach_of xs n) cents ≡ true → (m : ℕ) → credit_of (posted xs n cents) m ≡ credit_of xs m + cond (m == n) cents 0
@@ -84,12 +57,10 @@ posted_credits xs n cents = by_found (found xs n) refl
   where
     by_found : (o : Option Account) → found xs n ≡ o → takes (reach_in o) cents ≡ true → (m : ℕ) → credit_of (elim o [ Some a ↦ replaced xs n (raised cents a) | None ↦ xs ]) m ≡ credit_of xs m + cond (m == n) cents 0
     by_found (Some a) is h m = raised_credits xs n cents a is m
-    by_found None is h m =
-        let parts = and_parts (nat_le 1 cents) (nat_le cents 0) h in
-        absurd (omega (arith, leb-true 1 cents parts.0, leb-true cents 0 parts.1))
+    by_found None is h m = grind arith
 
 -- a number that is out of range has no credit and no reach
-pub none_outside : (xs : List Account) (n : ℕ) → all_sound xs ≡ true → in_range n ≡ false → (credit_of xs n ≡ 0) × (reach_of xs n ≡ 0)
+pub none_outside : (xs : List Account) (n : ℕ) → all_sound xs ≡ true → is_account n ≡ false → (credit_of xs n ≡ 0) × (reach_of xs n ≡ 0)
 none_outside xs n h out = (ap credit_in (found_outside xs n h out), ap reach_in (found_outside xs n h out))
 
 -- however the table goes on at a posting, this is what a posting means

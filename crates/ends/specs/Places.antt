@@ -1,26 +1,21 @@
 -- Where an account stands in a table; only the table's own code speaks of this.
-use Rattle.std.specs.Prelude.{◌≡◌, ℕ, suc, ◌<◌, true, false, cond, List, [], ◌∷◌, Some, None, Option, ◌==◌, slice_index_or}
+use Rattle.std.specs.Prelude.{◌≡◌, ℕ, ◌<◌, true, false, length, Some, None, Option, slice_index_or}
 use Rattle.ends.specs.declared.account.Account.{Account}
 use Rattle.ends.specs.declared.table.AccountTable.{AccountTable}
-use Rattle.ends.specs.Accounts.{found, sound}
+use Rattle.ends.specs.Accounts.{found, place, sound}
 use Rattle.ends.specs.Tables.{listed}
 
--- how many accounts stand before the one of that number
-abbrev pub place : List Account → ℕ → ℕ
-place [] n = 0
-place (a ∷ rest) n = cond (a.number.0 == n) 0 (suc (place rest n))
-
--- what stands where no account was ever listed
+-- what a read past the listed accounts would give: an account of number 0, closed and without credit
 abbrev pub no_account : Account
 no_account = record { number = record { 0 = 0 }; credit = record { 0 = 0 }; «open» = false }
 
 -- the account at a place
 abbrev pub account_at : AccountTable → ℕ → Account
-account_at t i = slice_index_or t.accounts i no_account
+account_at t i = slice_index_or (listed t) i no_account
 
 -- account n is listed, and stands at place i
 pub record StandsAt (t : AccountTable) (n i : ℕ) : Type 0 where
-  pub within : i < t.count
+  pub within : i < length (listed t)
   pub first : place (listed t) n ≡ i
   pub there : found (listed t) n ≡ Some (account_at t i)
   pub named : (account_at t i).number.0 ≡ n

@@ -1,5 +1,5 @@
 -- The account table, by the list of its accounts.
-use Rattle.std.specs.Prelude.{◌≡◌, ℕ, Bool, true, false, List, take, Result}
+use Rattle.std.specs.Prelude.{◌≡◌, ℕ, Bool, true, false, List, Result}
 use Rattle.measures.specs.declared.refusal.Refusal.{Refusal}
 use Rattle.ends.specs.declared.account.Account.{Account}
 use Rattle.ends.specs.declared.table.AccountTable.{AccountTable}
@@ -8,9 +8,9 @@ use Rattle.ends.specs.Postings.{takes}
 use Rattle.measures.specs.Answers.{Answered}
 use Rattle.ends.specs.Refusals.{against_opening, against_closing}
 
--- the listed accounts, open and closed, in the order of first opening: past them nothing stands, so this is the whole table
+-- the listed accounts, open and closed, in the order of first opening: this is the whole table
 abbrev pub listed : AccountTable → List Account
-listed t = take t.count t.accounts
+listed t = t.accounts.items
 
 -- what opening account n answers and leaves: a refusal leaves the whole table as it was
 abbrev pub Opens : {A : Type 0} → AccountTable → ℕ → Result A Refusal → AccountTable → Type 0

@@ -1,12 +1,9 @@
 // The accounts that are credited, by their numbers.
 ghost use Rattle.std.specs.Prelude.{◌≡◌, ◌≤◌};
-ghost use Rattle.ends.specs.Accounts.{fresh, reach, with_open};
-ghost use Rattle.ends.specs.Limits.{in_range, most_credit};
+ghost use Rattle.ends.specs.Accounts.{fresh, reach};
+ghost use Rattle.ends.specs.Limits.{most_credit};
 
-use measures::Cents;
-
-/// The last account number; the first is 1.
-const LAST_ACCOUNT: u64 = 99_999_999_999;
+use measures::{AccountNumber, Cents};
 
 /// The most credit that an account has, in cents.
 const MOST_CREDIT: u64 = 1_000_000_000_000;
@@ -14,21 +11,8 @@ const MOST_CREDIT: u64 = 1_000_000_000_000;
 /// The most that an account takes in one posting, in cents.
 const MOST_IN_ONE_POSTING: u64 = 10_000_000_000;
 
-/// The number of an account. It carries no range: a call takes any number and tests it.
-#[derive(Clone, Copy, PartialEq, Eq, Debug)]
-pub struct AccountNumber(pub u64);
-
-impl AccountNumber {
-    /// Whether there may be an account of this number.
-    pub(crate) fn is_in_range(self) -> bool
-        ensures { result ≡ in_range self.0 }
-    {
-        1 <= self.0 && self.0 <= LAST_ACCOUNT
-    }
-}
-
 /// An account of the table: its credit, and whether it takes postings.
-#[derive(Clone, Copy)]
+#[derive(Clone, Copy, Default)]
 pub(crate) struct Account {
     pub(crate) number: AccountNumber,
     pub(crate) credit: Cents,
@@ -45,13 +29,6 @@ impl Account {
             credit: Cents(0),
             open: true,
         }
-    }
-
-    /// This account, open or closed, with its credit.
-    pub(crate) fn with_open(self, open: bool) -> Self
-        ensures { result ≡ with_open «open» self }
-    {
-        Account { open, ..self }
     }
 
     /// The most that this account takes in one posting.

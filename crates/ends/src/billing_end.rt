@@ -1,10 +1,9 @@
 // What every billing end promises: the code above it is proved once for each that keeps this.
 ghost use Rattle.std.specs.Prelude.{◌≡◌, ℕ, Bool, false};
-ghost use Rattle.ends.specs.Limits.{in_range};
 ghost use Rattle.ends.specs.Postings.{Posting};
+ghost use Rattle.measures.specs.Measures.{is_account};
 
-use crate::account::AccountNumber;
-use measures::Cents;
+use measures::{AccountNumber, Cents};
 
 /// A place where credit is posted. It has a credit for each account, and a reach: the most that it takes in one posting now.
 pub trait BillingEnd {
@@ -27,7 +26,7 @@ pub trait BillingEnd {
         ensures { posts self.old account.0 cents.0 result self.new };
 
     // A number that is no account number has no credit and no reach.
-    ghost outside: { (e : Self) (n : ℕ) → in_range n ≡ false → (credits e n ≡ 0) × (reaches e n ≡ 0) };
+    ghost outside: { (e : Self) (n : ℕ) → is_account n ≡ false → (credits e n ≡ 0) × (reaches e n ≡ 0) };
 
     // However an end goes on at a posting, this is what a posting means.
     ghost meaning: { (e : Self) (account cents : ℕ) (taken : Bool) (f : Self) → posts e account cents taken f → Posting (credits e) (reaches e) account cents taken (credits f) (reaches f) };

@@ -5,8 +5,8 @@ mod account;
 mod billing_end;
 mod table;
 
-pub use account::AccountNumber;
 pub use billing_end::BillingEnd;
+pub use measures::AccountNumber;
 pub use table::AccountTable;
 
 #[cfg(test)]

@@ -3,10 +3,9 @@ ghost use Rattle.std.specs.Prelude.{◌≡◌, ◌+◌};
 ghost use Rattle.ends.specs.Postings.{Posting};
 ghost use Rattle.std.proofs.Common.{rules};
 
-use crate::account::AccountNumber;
 use crate::billing_end::BillingEnd;
 use crate::table::AccountTable;
-use measures::{Cents, Refusal};
+use measures::{AccountNumber, Cents, Row};
 
 // An end that takes nothing. It settles no more than what a posting means, and takes that for its relation.
 #[derive(Drop)]
@@ -43,14 +42,6 @@ fn rise<E: BillingEnd>(end: &mut E, account: AccountNumber, cents: Cents) -> Cen
     }
 }
 
-// The number of a refusal, or 0.
-fn refused(answer: Result<(), Refusal>) -> u8 {
-    match answer {
-        Ok(()) => 0,
-        Err(refusal) => refusal.number(),
-    }
-}
-
 #[test]
 fn takes_postings_up_to_the_reach(rt: HostRuntime) {
     let mut table = AccountTable::new();
@@ -82,10 +73,10 @@ fn lists_no_more_than_256_accounts(rt: HostRuntime) {
     for n in 0..257 {
         let _ = table.open(AccountNumber(n));
     }
-    assert_eq!(rt; refused(table.open(AccountNumber(0))), 3);
-    assert_eq!(rt; refused(table.open(AccountNumber(257))), 16);
-    assert_eq!(rt; refused(table.close(AccountNumber(257))), 1);
-    assert_eq!(rt; refused(table.open(AccountNumber(256))), 0);
+    assert_eq!(rt; Row::from(table.open(AccountNumber(0))).refusal, 3);
+    assert_eq!(rt; Row::from(table.open(AccountNumber(257))).refusal, 16);
+    assert_eq!(rt; Row::from(table.close(AccountNumber(257))).refusal, 1);
+    assert_eq!(rt; Row::from(table.open(AccountNumber(256))).refusal, 0);
 }
 
 #[test]

@@ -4,20 +4,19 @@ ghost use Rattle.ends.specs.Tables.{Posts, listed};
 ghost use Rattle.ends.specs.Meaning.{none_outside, posts_mean};
 
 use super::AccountTable;
-use crate::account::{Account, AccountNumber};
 use crate::billing_end::BillingEnd;
-use measures::Cents;
+use measures::{AccountNumber, Cents};
 
 impl BillingEnd for AccountTable {
-    ghost credits = { λ t n. credit_of (listed t) n };
+    ghost credits = { λ t. credit_of (listed t) };
 
-    ghost reaches = { λ t n. reach_of (listed t) n };
+    ghost reaches = { λ t. reach_of (listed t) };
 
     ghost posts = { Posts };
 
-    ghost outside = { λ t n out. none_outside (listed t) n t.bounded out };
+    ghost outside = { λ t n. none_outside (listed t) n t.bounded };
 
-    ghost meaning = { λ t account cents taken t' posts. posts_mean t account cents taken t' posts };
+    ghost meaning = { posts_mean };
 
     fn credit(&self, account: AccountNumber) -> Cents {
         match self.find(account) {
@@ -30,15 +29,11 @@ impl BillingEnd for AccountTable {
         let Some(i) = self.find(account) else {
             return false;
         };
-        let credited = self.accounts[i];
-        if cents.0 < 1 || cents.0 > credited.reach().0 {
+        let reach = self.accounts[i].reach();
+        if !(1..=reach.0).contains(&cents.0) {
             return false;
         }
-        let raised = Account {
-            credit: Cents(credited.credit.0 + cents.0),
-            ..credited
-        };
-        self.replace(i, raised);
+        self.accounts[i].credit.0 += cents.0;
         true
     }
 }

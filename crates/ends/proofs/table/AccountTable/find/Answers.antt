@@ -1,14 +1,18 @@
--- Each turn finds the account here or looks further on.
-use Rattle.ends.proofs.Standing.{stands_here, stands_past, stands_nowhere}
+-- The chain finds the first place, which is where the account stands.
+use Rattle.std.proofs.Common.{◌≡◌, subst, sym, rules, tests}
+use Rattle.std.specs.List.{position}
+use Rattle.std.proofs.lemmas.Iterator.{YieldsList-from_slice}
+use Rattle.std.proofs.lemmas.Iterator.Search.{position_from_yields_List}
+use Rattle.ends.specs.Accounts.{has_number}
+use Rattle.ends.specs.Places.{Stands}
+use Rattle.ends.specs.Tables.{listed}
+use Rattle.ends.proofs.Standing.{stands_by_position}
 use Rattle.ends.proofs.table.AccountTable.find.Goals as goal
 
-pub returns-then-self-i : goal.returns-then-self-i
-returns-then-self-i c =
-    stands_here c.args.self.now c.args.number.0 c.loop-i.i c.loop-i.invariant c.loop-i-test.true c.if-self-i.true
-
-pub loop-i-preserved : goal.loop-i-preserved
-loop-i-preserved c =
-    stands_past c.args.self.now c.args.number.0 c.loop-i.i c.loop-i.invariant c.loop-i-test.true c.if-self-i.false
-
 pub returns : goal.returns
-returns c = stands_nowhere c.args.self.now c.args.number.0 c.loop-i.i c.loop-i.invariant c.loop-i-test.false
+returns c =
+    let t = c.args.self.now in
+    let n = c.args.number.0 in
+    let is : c.position.result ≡ position (has_number n) (listed t) =
+    position_from_yields_List (has_number n) _ _ c.position.result c.position.ensures.ran (YieldsList-from_slice (listed t) cc) (λ x b q k. search (rules, tests)) in
+    subst (Stands t n) (sym is) (stands_by_position t n)
