@@ -18,6 +18,7 @@ impl Division {
         ensures none { NoneForNone (map T.weighs entries.now) (amounts shares.new) }
     {
         let mut before = 0;
+        // A place is written by its index: with `zip(shares.iter_mut())` it did not prove what the places hold in the end.
         for (i, entry) in entries.iter().enumerate() {
             let reached = before + entry.weight();
             shares[i] = self.share(before, reached);

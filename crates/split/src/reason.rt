@@ -48,9 +48,8 @@ impl Division {
 fn total_weight<T: Weighted>(entries: &[T]) -> Option<u64>
     ensures { result ≡ allowed_total (map T.weighs entries.now) }
 {
-    let mut total: u64 = 0;
-    for entry in entries {
-        total = total.checked_add(entry.weight())?;
-    }
-    Some(total).filter(|total| (1..=HIGHEST_TOTAL).contains(total))
+    entries
+        .iter()
+        .try_fold(0, |total: u64, entry| total.checked_add(entry.weight()))
+        .filter(|total| (1..=HIGHEST_TOTAL).contains(total))
 }
