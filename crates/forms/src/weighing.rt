@@ -1,6 +1,8 @@
 // Whether the weights of some lines make a form.
-ghost use Rattle.std.specs.Prelude.{◌≡◌};
-ghost use Rattle.forms.specs.Lines.{Leave, is_line_count, weights_lawful};
+ghost use Rattle.std.specs.Prelude.{◌≡◌, ◌==◌};
+ghost use Rattle.std.specs.List.{list_all};
+ghost use Rattle.forms.specs.Limits.{whole_weight};
+ghost use Rattle.forms.specs.Lines.{has_weight, is_line_count, total_weight, weights_lawful};
 
 use crate::line::FormLine;
 
@@ -14,32 +16,29 @@ pub(crate) const MOST_LINES: usize = 16;
 pub(crate) fn is_line_count(n: usize) -> bool
     ensures { result ≡ is_line_count n }
 {
-    1 <= n && n <= MOST_LINES
+    (1..=MOST_LINES).contains(&n)
 }
 
 /// Whether these are as many lines as a form may have, each has a weight, and the weights make up the whole.
 pub(crate) fn are_weights_lawful(lines: &[FormLine]) -> bool
     ensures { result ≡ weights_lawful lines.now }
 {
-    if !is_line_count(lines.len()) {
-        return false;
-    }
-    match weight_left(lines) {
-        Some(left) => left == 0,
-        None => false,
-    }
+    is_line_count(lines.len()) && have_weights(lines) && make_up_whole(lines)
 }
 
-// What the lines leave of the whole, if each has a weight and there is enough.
-fn weight_left(lines: &[FormLine]) -> Option<u64>
-    ensures { Leave lines.now result }
+// Whether each line has a weight.
+fn have_weights(lines: &[FormLine]) -> bool
+    ensures { result ≡ list_all has_weight lines.now }
 {
-    let mut left = WHOLE_WEIGHT;
-    for line in lines {
-        let Some(rest) = line.taken_from(left) else {
-            return None;
-        };
-        left = rest;
-    }
-    Some(left)
+    lines.iter().all(|line| line.weight > 0)
+}
+
+// Whether the weights of the lines make up the whole.
+fn make_up_whole(lines: &[FormLine]) -> bool
+    ensures { result ≡ (total_weight lines.now == whole_weight) }
+{
+    let total = lines
+        .iter()
+        .try_fold(0, |total: u64, line| total.checked_add(line.weight));
+    total == Some(WHOLE_WEIGHT)
 }
