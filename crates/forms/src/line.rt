@@ -7,7 +7,7 @@ use measures::AccountNumber;
 use split::Weighted;
 
 /// A line of a form: an account, and its weight in the whole.
-#[derive(Clone, Copy)]
+#[derive(Clone, Copy, PartialEq, Eq, Default, Debug)]
 pub struct FormLine {
     pub account: AccountNumber,
     pub weight: u64,
@@ -18,24 +18,21 @@ impl FormLine {
     pub(crate) fn blank() -> FormLine
         ensures { result ≡ no_line }
     {
-        FormLine {
-            account: AccountNumber(0),
-            weight: 0,
-        }
+        FormLine::default()
     }
 
     /// Whether this place has no line.
     pub(crate) fn is_blank(self) -> bool
         ensures { result ≡ is_blank self }
     {
-        self.account.0 == 0 && self.weight == 0
+        self == FormLine::blank()
     }
 
     /// Whether this line names the account.
     pub(crate) fn is_of(self, account: AccountNumber) -> bool
         ensures { result ≡ (self.account.0 == account.0) }
     {
-        self.account.0 == account.0
+        self.account == account
     }
 
     /// What this line's weight leaves of so much, if the line has a weight and there is enough.

@@ -4,7 +4,7 @@ ghost use Rattle.std.specs.List.{list_all};
 ghost use Rattle.forms.specs.Lines.{accounts_lawful, has_account_number, names, none_twice};
 
 use crate::line::FormLine;
-use measures::AccountNumber;
+use measures::{AccountNumber, Ranged};
 
 /// Whether each line names an account, and no two the same.
 pub(crate) fn are_accounts_lawful(lines: &[FormLine]) -> bool

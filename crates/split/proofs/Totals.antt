@@ -2,7 +2,7 @@
 use Rattle.std.proofs.Common.{◌≡◌, ℕ, ◌+◌, ◌<◌, ◌≤◌, Bool, true, false, eqb, leb, List, length, get_or, drop, ℤ, nat_abs, Some, None, sum_by, sum, Option, sym, refl, ap, ◌∙◌, arith}
 use Rattle.std.proofs.lemmas.List.Sums.{sum_by-drop_more}
 use Rattle.std.proofs.lemmas.Bool.{and_from, and_left, and_parts, and_right, cond-false, cond-true, eqb-true, le-leb, leb-true, lt-leb}
-use Rattle.measures.specs.Answers.{unless_of}
+use Rattle.measures.specs.Answers.{unless}
 use Rattle.split.specs.Splitting.{against_splitting, allowed_total, highest_total, is_total, largest_amount}
 use Rattle.split.specs.declared.reason.Unsplit.TheVariants.{AmountTooLarge, TotalOutOfRange, WrongLength}
 
@@ -24,7 +24,7 @@ module _ (weights : List ℕ) where
       cond-true (is_total (sum weights)) (Some (sum weights)) None (and_from (leb 1 (sum weights)) (leb (sum weights) highest_total) (le-leb 1 (sum weights) (omega arith)) (le-leb (sum weights) highest_total k))
 
 -- there is no reason if the test holds and there is no later reason
-passed : {R : Type 0} (test : Bool) (reason : R) (next : Option R) → unless_of test reason next ≡ None → (test ≡ true) × (next ≡ None)
+passed : {R : Type 0} (test : Bool) (reason : R) (next : Option R) → unless test reason next ≡ None → (test ≡ true) × (next ≡ None)
 passed true reason next h = (refl, h)
 passed false reason next h = let z : ◌≡◌ {A = ℕ} 0 1 = cc in absurd (omega arith)
 
@@ -37,8 +37,8 @@ pub record Possible (amount : ℤ) (weights : List ℕ) (places : ℕ) : Type 0 
 
 pub possible : (amount : ℤ) (weights : List ℕ) (places : ℕ) → against_splitting amount weights places ≡ None → Possible amount weights places
 possible amount weights places h =
-    let later = unless_of (eqb places (length weights)) WrongLength None in
-    let first = passed (leb (nat_abs amount) largest_amount) AmountTooLarge (unless_of (is_total (sum weights)) TotalOutOfRange later) h in
+    let later = unless (eqb places (length weights)) WrongLength None in
+    let first = passed (leb (nat_abs amount) largest_amount) AmountTooLarge (unless (is_total (sum weights)) TotalOutOfRange later) h in
     let second = passed (is_total (sum weights)) TotalOutOfRange later first.1 in
     let third = passed (eqb places (length weights)) WrongLength None second.1 in
     let range = and_parts (leb 1 (sum weights)) (leb (sum weights) highest_total) second.0 in

@@ -1,6 +1,6 @@
 -- When an amount can be split, and what the split makes of the places for the shares.
 use Rattle.std.specs.Prelude.{◌≡◌, ℕ, Bool, cond, ◌&&◌, List, length, ℤ, Some, None, Ok, Err, sum, Option, Result, ◌==◌, nat_le, unsigned_abs}
-use Rattle.measures.specs.Answers.{AnsweredBy, unless_of}
+use Rattle.measures.specs.Answers.{Answered, unless}
 use Rattle.measures.specs.declared.measure.SignedCents.{SignedCents}
 use Rattle.split.specs.Shares.{amounts, shares_of}
 use Rattle.split.specs.declared.reason.Unsplit.{Unsplit}
@@ -25,9 +25,9 @@ allowed_total weights = cond (is_total (sum weights)) (Some (sum weights)) None
 -- the first reason against splitting an amount by these weights into so many places
 abbrev pub against_splitting : ℤ → List ℕ → ℕ → Option Unsplit
 against_splitting amount weights places =
-    unless_of (nat_le (unsigned_abs amount) largest_amount) AmountTooLarge (
-    unless_of (is_total (sum weights)) TotalOutOfRange (
-    unless_of (places == length weights) WrongLength None))
+    unless (nat_le (unsigned_abs amount) largest_amount) AmountTooLarge (
+    unless (is_total (sum weights)) TotalOutOfRange (
+    unless (places == length weights) WrongLength None))
 
 -- the total by which an amount may be split, or the first reason against it
 abbrev pub Allows : ℤ → List ℕ → ℕ → Result ℕ Unsplit → Type 0
@@ -36,4 +36,4 @@ Allows amount weights places (Err e) = against_splitting amount weights places �
 
 -- an amount is split into the shares of the weights; if it cannot be, the places are as they were
 abbrev pub Splits : {A : Type 0} → ℤ → List ℕ → Result A Unsplit → List SignedCents → List SignedCents → Type 0
-Splits amount weights r before after = AnsweredBy (against_splitting amount weights (length before)) r before after (λ _. amounts after ≡ shares_of amount weights)
+Splits amount weights r before after = Answered (against_splitting amount weights (length before)) r before after (λ _. amounts after ≡ shares_of amount weights)
