@@ -1,4 +1,2 @@
 -- What the proofs of this crate share.
 pub mod Lawful
-pub mod Passing
-pub mod Blank

@@ -1,5 +1,5 @@
 -- What is answered where a form is made.
-use Rattle.std.specs.Prelude.{◌≡◌, ℕ, true, false, List, map, ℤ, Some, None, Ok, Err, Option, Result}
+use Rattle.std.specs.Prelude.{◌≡◌, ℕ, true, false, List, map, ℤ, Some, None, Ok, Err, Result}
 use Rattle.measures.specs.declared.measure.SignedCents.{SignedCents}
 use Rattle.measures.specs.declared.refusal.Refusal.{Refusal}
 use Rattle.split.specs.Splitting.{Splits}
@@ -7,6 +7,7 @@ use Rattle.split.specs.declared.reason.Unsplit.{Unsplit}
 use Rattle.forms.specs.declared.line.FormLine.{FormLine}
 use Rattle.forms.specs.declared.row.FormRow.{FormRow}
 use Rattle.forms.specs.declared.allocation.Form.{Form}
+use Rattle.forms.specs.declared.allocation.Unlawful.{Unlawful}
 use Rattle.forms.specs.Lines.{against_form}
 use Rattle.forms.specs.Rows.{lines_of, row_of, lawful}
 
@@ -16,9 +17,9 @@ FormOfLines lines (Ok form) = (against_form lines ≡ None) × (lines_of form.ro
 FormOfLines lines (Err reason) = against_form lines ≡ Some reason
 
 -- the form of a row, if the row is one
-abbrev pub FormOfRow : FormRow → Option Form → Type 0
-FormOfRow row (Some form) = (lawful row ≡ true) × (form.row ≡ row)
-FormOfRow row None = lawful row ≡ false
+abbrev pub FormOfRow : FormRow → Result Form Unlawful → Type 0
+FormOfRow row (Ok form) = (lawful row ≡ true) × (form.row ≡ row)
+FormOfRow row (Err unlawful) = lawful row ≡ false
 
 -- the weights of the lines of a row, in their order
 abbrev pub weights_of : FormRow → List ℕ

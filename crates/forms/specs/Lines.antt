@@ -1,6 +1,6 @@
 -- A list of lines: whether its weights and its accounts make a form.
-use Rattle.std.specs.Prelude.{◌≡◌, ℕ, ◌+◌, Bool, true, false, not, ◌&&◌, ◌||◌, List, [], ◌∷◌, length, Some, None, sum_by, Option, ◌==◌, nat_le}
-use Rattle.std.specs.List.{list_all}
+use Rattle.std.specs.Prelude.{◌≡◌, ℕ, ◌+◌, Bool, true, false, not, ◌&&◌, List, [], ◌∷◌, length, Some, None, sum_by, Option, ◌==◌, nat_le}
+use Rattle.std.specs.List.{list_all, list_any}
 use Rattle.measures.specs.Answers.{unless}
 use Rattle.measures.specs.Measures.{is_account}
 use Rattle.measures.specs.declared.refusal.Refusal.{Refusal}
@@ -31,8 +31,7 @@ has_account_number line = is_account line.account.0
 
 -- whether a line names the account
 abbrev pub names : List FormLine → ℕ → Bool
-names [] n = false
-names (line ∷ rest) n = line.account.0 == n || names rest n
+names lines n = list_any (λ (line : FormLine). line.account.0 == n) lines
 
 -- whether no account is named twice
 abbrev pub none_twice : List FormLine → Bool

@@ -12,3 +12,7 @@ pub struct Form {
     row: FormRow,
     ghost sound: { lawful row ≡ true },
 }
+
+/// What is answered of a row that is no form.
+#[derive(Clone, Copy, PartialEq, Eq, Debug)]
+pub struct Unlawful;

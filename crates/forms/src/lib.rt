@@ -7,7 +7,7 @@ mod naming;
 mod row;
 mod weighing;
 
-pub use allocation::Form;
+pub use allocation::{Form, Unlawful};
 pub use line::FormLine;
 pub use row::FormRow;
 pub use weighing::WHOLE_WEIGHT;

@@ -17,22 +17,19 @@ pub(crate) fn are_accounts_lawful(lines: &[FormLine]) -> bool
 fn are_account_numbers(lines: &[FormLine]) -> bool
     ensures { result ≡ list_all has_account_number lines.now }
 {
-    for line in lines {
-        if !line.account.is_in_range() {
-            return false;
-        }
-    }
-    true
+    lines.iter().all(|line| line.account.is_in_range())
 }
 
 // Whether no account is named twice.
 fn are_distinct(lines: &[FormLine]) -> bool
     ensures { result ≡ none_twice lines.now }
 {
-    for i in 0..lines.len() {
-        if names_account(&lines[i + 1..], lines[i].account) {
+    let mut rest = lines;
+    while let [line, others @ ..] = rest {
+        if names_account(others, line.account) {
             return false;
         }
+        rest = others;
     }
     true
 }
@@ -41,10 +38,5 @@ fn are_distinct(lines: &[FormLine]) -> bool
 fn names_account(lines: &[FormLine], account: AccountNumber) -> bool
     ensures { result ≡ names lines.now account.0 }
 {
-    for line in lines {
-        if line.is_of(account) {
-            return true;
-        }
-    }
-    false
+    lines.iter().any(|line| line.account == account)
 }

@@ -4,7 +4,7 @@ ghost use Rattle.std.specs.Prelude.{◌≡◌};
 use crate::allocation::Form;
 use crate::line::FormLine;
 use crate::weighing::WHOLE_WEIGHT;
-use measures::AccountNumber;
+use measures::{AccountNumber, Row};
 use std::test::Fail;
 
 fn line(account: u64, weight: u64) -> FormLine {
@@ -16,17 +16,14 @@ fn line(account: u64, weight: u64) -> FormLine {
 
 // The number of the refusal of these lines, or 0.
 fn refused(lines: &[FormLine]) -> u8 {
-    match Form::new(lines) {
-        Ok(_) => 0,
-        Err(refusal) => refusal.number(),
-    }
+    Row::from(Form::new(lines).map(|_| ())).refusal
 }
 
 // Lines of the accounts 1 to 17, the first of this weight and each other of weight 1.
 fn seventeen(first: u64) -> [FormLine; 17] {
     let mut lines = [line(1, 1); 17];
-    for i in 0..17 {
-        lines[i].account = AccountNumber(i as u64 + 1);
+    for (account, line) in (1..).zip(lines.iter_mut()) {
+        line.account = AccountNumber(account);
     }
     lines[0].weight = first;
     lines
@@ -36,10 +33,7 @@ fn seventeen(first: u64) -> [FormLine; 17] {
 fn filed(form: Form) -> Form
     ensures { result.row ≡ form.row }
 {
-    match Form::from_row(form.row()) {
-        Some(again) => again,
-        None => unreachable(),
-    }
+    Form::try_from(form.row()).unwrap()
 }
 
 #[test]
@@ -91,23 +85,7 @@ fn up_to_sixteen_lines(rt: HostRuntime) {
 #[test]
 fn lines_are_read_back(rt: HostRuntime) -> Result<(), Fail> {
     let lines = [line(7, 1), line(3, 2), line(5, WHOLE_WEIGHT - 3)];
-    match Form::new(&lines) {
-        Ok(form) => {
-            let again = filed(form);
-            let read = again.lines();
-            assert_eq!(rt; read.len(), 3);
-            for i in 0..3 {
-                assert!(rt;
-                    i < read.len()
-                        && read[i].account.0 == lines[i].account.0
-                        && read[i].weight == lines[i].weight
-                );
-            }
-            Ok(())
-        }
-        Err(_) => {
-            assert!(rt; false);
-            Ok(())
-        },
-    }
+    let form = Form::new(&lines)?;
+    assert_eq!(rt; filed(form).lines(), lines.as_slice());
+    Ok(())
 }

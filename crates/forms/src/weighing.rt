@@ -14,20 +14,14 @@ pub(crate) const MOST_LINES: usize = 16;
 pub(crate) fn is_line_count(n: usize) -> bool
     ensures { result ≡ is_line_count n }
 {
-    1 <= n && n <= MOST_LINES
+    (1..=MOST_LINES).contains(&n)
 }
 
 /// Whether these are as many lines as a form may have, each has a weight, and the weights make up the whole.
 pub(crate) fn are_weights_lawful(lines: &[FormLine]) -> bool
     ensures { result ≡ weights_lawful lines.now }
 {
-    if !is_line_count(lines.len()) {
-        return false;
-    }
-    match weight_left(lines) {
-        Some(left) => left == 0,
-        None => false,
-    }
+    is_line_count(lines.len()) && weight_left(lines) == Some(0)
 }
 
 // What the lines leave of the whole, if each has a weight and there is enough.
@@ -36,10 +30,7 @@ fn weight_left(lines: &[FormLine]) -> Option<u64>
 {
     let mut left = WHOLE_WEIGHT;
     for line in lines {
-        let Some(rest) = line.taken_from(left) else {
-            return None;
-        };
-        left = rest;
+        left = line.taken_from(left)?;
     }
     Some(left)
 }

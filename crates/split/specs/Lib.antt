@@ -1,3 +1,4 @@
+pub mod Divisions
 pub mod Fairness
 pub mod Shares
 pub mod Splitting

@@ -1,5 +1,5 @@
 -- When an amount can be split, and what the split makes of the places for the shares.
-use Rattle.std.specs.Prelude.{◌≡◌, ℕ, Bool, cond, ◌&&◌, List, length, ℤ, Some, None, Ok, Err, sum, Option, Result, ◌==◌, nat_le, unsigned_abs}
+use Rattle.std.specs.Prelude.{◌≡◌, ℕ, Bool, cond, ◌&&◌, List, length, ℤ, Some, None, sum, Option, Result, ◌==◌, nat_le, unsigned_abs}
 use Rattle.measures.specs.Answers.{Answered, unless}
 use Rattle.measures.specs.declared.measure.SignedCents.{SignedCents}
 use Rattle.split.specs.Shares.{amounts, shares_of}
@@ -28,11 +28,6 @@ against_splitting amount weights places =
     unless (nat_le (unsigned_abs amount) largest_amount) AmountTooLarge (
     unless (is_total (sum weights)) TotalOutOfRange (
     unless (places == length weights) WrongLength None))
-
--- the total by which an amount may be split, or the first reason against it
-abbrev pub Allows : ℤ → List ℕ → ℕ → Result ℕ Unsplit → Type 0
-Allows amount weights places (Ok total) = (against_splitting amount weights places ≡ None) × (total ≡ sum weights)
-Allows amount weights places (Err e) = against_splitting amount weights places ≡ Some e
 
 -- an amount is split into the shares of the weights; if it cannot be, the places are as they were
 abbrev pub Splits : {A : Type 0} → ℤ → List ℕ → Result A Unsplit → List SignedCents → List SignedCents → Type 0

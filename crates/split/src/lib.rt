@@ -8,11 +8,12 @@ ghost use Rattle.split.specs.Splitting.{Splits};
 
 use measures::SignedCents;
 
+mod division;
 mod fill;
 mod reason;
-mod share;
 mod weighted;
 
+use division::Division;
 pub use reason::Unsplit;
 pub use weighted::Weighted;
 
@@ -31,7 +32,7 @@ pub fn split<T: Weighted>(
     ensures close { OnOk result (Close amount.0 (map T.weighs entries.now) (amounts shares.new)) }
     ensures none { OnOk result (NoneForNone (map T.weighs entries.now) (amounts shares.new)) }
 {
-    let total = reason::total_to_split(amount, entries, shares.len())?;
-    fill::fill(amount, total, entries, shares);
+    let division = Division::of(amount, entries, shares.len())?;
+    division.fill(entries, shares);
     Ok(())
 }

@@ -1,7 +1,9 @@
 // Why an amount cannot be split, and the total of the weights if it can.
-ghost use Rattle.std.specs.Prelude.{◌≡◌, map, length, ◌==◌};
-ghost use Rattle.split.specs.Splitting.{Allows, allowed_total};
+ghost use Rattle.std.specs.Prelude.{◌≡◌, map};
+ghost use Rattle.split.specs.Divisions.{Allows};
+ghost use Rattle.split.specs.Splitting.{allowed_total};
 
+use crate::division::Division;
 use crate::weighted::Weighted;
 use measures::SignedCents;
 
@@ -22,47 +24,32 @@ pub enum Unsplit {
     WrongLength,
 }
 
-/// The total of the weights if the amount can be split into so many places, or the first reason against it.
-pub(crate) fn total_to_split<T: Weighted>(
-    amount: SignedCents,
-    entries: &[T],
-    places: usize,
-) -> Result<u64, Unsplit>
-    ensures { Allows amount.0 (map T.weighs entries.now) places result }
-{
-    if amount.0.unsigned_abs() > LARGEST_AMOUNT {
-        return Err(Unsplit::AmountTooLarge);
+impl Division {
+    /// The amount and the total of the weights of the entries, if it can be split over them into so many places, or the first reason against it.
+    pub(crate) fn of<T: Weighted>(
+        amount: SignedCents,
+        entries: &[T],
+        places: usize,
+    ) -> Result<Division, Unsplit>
+        ensures { Allows amount (map T.weighs entries.now) places result }
+    {
+        if amount.0.unsigned_abs() > LARGEST_AMOUNT {
+            return Err(Unsplit::AmountTooLarge);
+        }
+        let total = total_weight(entries).ok_or(Unsplit::TotalOutOfRange)?;
+        if places != entries.len() {
+            return Err(Unsplit::WrongLength);
+        }
+        Ok(Division { amount, total })
     }
-    let Some(total) = total_weight(entries) else {
-        return Err(Unsplit::TotalOutOfRange);
-    };
-    if !is_place_for_each(entries, places) {
-        return Err(Unsplit::WrongLength);
-    }
-    Ok(total)
 }
 
-// The total of the weights, if it is one that a split may have. The sum stops where it would pass the highest.
+// The total of the weights, if it is one that a split may have.
 fn total_weight<T: Weighted>(entries: &[T]) -> Option<u64>
     ensures { result ≡ allowed_total (map T.weighs entries.now) }
 {
-    let mut total = 0;
-    for entry in entries {
-        let weight = entry.weight();
-        if weight > HIGHEST_TOTAL - total {
-            return None;
-        }
-        total += weight;
-    }
-    if total == 0 {
-        return None;
-    }
-    Some(total)
-}
-
-// Whether there are as many places as entries.
-fn is_place_for_each<T: Weighted>(entries: &[T], places: usize) -> bool
-    ensures { result ≡ (places == length (map T.weighs entries.now)) }
-{
-    places == entries.len()
+    entries
+        .iter()
+        .try_fold(0, |total: u64, entry| total.checked_add(entry.weight()))
+        .filter(|total| (1..=HIGHEST_TOTAL).contains(total))
 }

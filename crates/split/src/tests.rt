@@ -19,25 +19,22 @@ const UNTOUCHED: SignedCents = SignedCents(-7);
 
 // Splits an amount over three weights, and checks the shares.
 fn check_shares(rt: &impl Abort, amount: i64, weights: [u64; 3], shares: [i64; 3]) {
-    let entries = [Weight(weights[0]), Weight(weights[1]), Weight(weights[2])];
     let mut places = [UNTOUCHED; 3];
-    assert_eq!(rt; split(SignedCents(amount), &entries, &mut places), Ok(()));
-    assert_eq!(rt; places[0].0, shares[0]);
-    assert_eq!(rt; places[1].0, shares[1]);
-    assert_eq!(rt; places[2].0, shares[2]);
+    assert_eq!(rt;
+        split(SignedCents(amount), &weights.map(Weight), &mut places),
+        Ok(())
+    );
+    assert_eq!(rt; places, shares.map(SignedCents));
 }
 
 // Splits an amount over three weights, and checks that it is refused and that the places are as they were.
 fn check_refused(rt: &impl Abort, amount: i64, weights: [u64; 3], reason: Unsplit) {
-    let entries = [Weight(weights[0]), Weight(weights[1]), Weight(weights[2])];
     let mut places = [UNTOUCHED; 3];
     assert_eq!(rt;
-        split(SignedCents(amount), &entries, &mut places),
+        split(SignedCents(amount), &weights.map(Weight), &mut places),
         Err(reason)
     );
-    assert_eq!(rt; places[0].0, UNTOUCHED.0);
-    assert_eq!(rt; places[1].0, UNTOUCHED.0);
-    assert_eq!(rt; places[2].0, UNTOUCHED.0);
+    assert_eq!(rt; places, [UNTOUCHED; 3]);
 }
 
 #[test]
@@ -80,9 +77,8 @@ fn refuses_for_the_first_reason(rt: HostRuntime) {
     check_refused(&rt, 100, [1_000_000, 0, 1], Unsplit::TotalOutOfRange);
     check_refused(&rt, 100, [1, u64::MAX, u64::MAX], Unsplit::TotalOutOfRange);
     let mut places = [UNTOUCHED; 2];
-    let entries = [Weight(1), Weight(1), Weight(1)];
     assert_eq!(rt;
-        split(SignedCents(9), &entries, &mut places),
+        split(SignedCents(9), &[Weight(1); 3], &mut places),
         Err(Unsplit::WrongLength)
     );
     assert_eq!(rt;
@@ -93,8 +89,7 @@ fn refuses_for_the_first_reason(rt: HostRuntime) {
         split(SignedCents(9), &[Weight(0)], &mut places),
         Err(Unsplit::TotalOutOfRange)
     );
-    assert_eq!(rt; places[0].0, UNTOUCHED.0);
-    assert_eq!(rt; places[1].0, UNTOUCHED.0);
+    assert_eq!(rt; places, [UNTOUCHED; 2]);
 }
 
 // Sixteen entries: each share is less than a cent from its part, and the cents that are over are spread.
@@ -105,8 +100,11 @@ fn splits_over_sixteen_entries(rt: HostRuntime) {
         split(SignedCents(-100), &[Weight(625); 16], &mut places),
         Ok(())
     );
-    for i in 0..16 {
-        let share = if i % 4 == 3 { -7 } else { -6 };
-        assert_eq!(rt; places[i].0, share, "a sixteenth of -100");
+    for four in places.chunks_exact(4) {
+        assert_eq!(rt;
+            four,
+            [-6, -6, -6, -7].map(SignedCents).as_slice(),
+            "a sixteenth of -100"
+        );
     }
 }

@@ -5,7 +5,7 @@ ghost use Rattle.split.specs.Shares.{amounts};
 ghost use Rattle.forms.specs.Forms.{Allocates, FormOfLines, FormOfRow};
 ghost use Rattle.forms.specs.Rows.{lawful, lines_of};
 
-use super::Form;
+use super::{Form, Unlawful};
 use crate::line::FormLine;
 use crate::naming::are_accounts_lawful;
 use crate::row::FormRow;
@@ -29,17 +29,6 @@ impl Form {
         })
     }
 
-    /// The form that lies on file as this row, if the row is one.
-    pub fn from_row(row: FormRow) -> Option<Form>
-        ensures { FormOfRow row result }
-    {
-        if row.is_lawful() {
-            Some(Form { row })
-        } else {
-            None
-        }
-    }
-
     /// This form as it lies on file.
     pub fn row(&self) -> FormRow
         ensures same { result ≡ self.now.row }
@@ -52,8 +41,7 @@ impl Form {
     pub fn lines(&self) -> &[FormLine]
         ensures { result.now ≡ lines_of self.now.row }
     {
-        let row = &self.row;
-        row.listed()
+        self.row.listed()
     }
 
     /// Shares out an amount to the lines, by their weights, and fills in the share of each.
@@ -62,5 +50,20 @@ impl Form {
         ensures whole { OnOk result (Whole amount.0 (amounts shares.new)) }
     {
         split(amount, self.lines(), shares)
+    }
+}
+
+// The form that lies on file as a row, if the row is one.
+impl TryFrom<FormRow> for Form {
+    type Error = Unlawful;
+
+    ghost try_from_gives = { FormOfRow };
+
+    fn try_from(row: FormRow) -> Result<Form, Unlawful> {
+        if row.is_lawful() {
+            Ok(Form { row })
+        } else {
+            Err(Unlawful)
+        }
     }
 }
