@@ -85,7 +85,7 @@ impl Units {
         };
         Ok(Some(Received {
             day: received.day,
-            form: Form::from_row(received.form).unwrap(),
+            form: Form::try_from(received.form).unwrap(),
         }))
     }
 }
