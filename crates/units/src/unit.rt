@@ -18,7 +18,7 @@ pub struct Unit {
 }
 
 impl Unit {
-    /// Moves the standing by a notice, given by its number.
+    /// Moves the standing by a notice, given by its number, which may be any.
     pub(crate) fn notice(&mut self, number: u64, day: Day) -> Result<(), Refusal>
         ensures { NotedAs self.old number day result self.new }
     {

@@ -39,7 +39,7 @@ impl Units {
         Ok(())
     }
 
-    /// Moves a unit's standing by a notice, given by its number.
+    /// Moves a unit's standing by a notice, given by its number, which may be any.
     pub fn notice(&mut self, unit: UnitNumber, number: u64, day: Day) -> Result<(), Refusal>
         ensures { Notices self.old unit.0 number day result self.new }
     {
