@@ -1,30 +1,25 @@
 -- Every world that is reached along a page keeps the page.
-use Rattle.std.proofs.Common.{◌≡◌, ℕ, ◌<◌, Bool, true, false, cond, List, [], ◌∷◌, length, get_or, set, pos, neg_ℤ, Some, None, Ok, Err, Option, Result, sym, refl, ap, ◌∙◌, subst, arith, get_or-set_same}
+use Rattle.std.proofs.Common.{◌≡◌, ℕ, ◌<◌, List, [], ◌∷◌, length, get_or, set, Some, None, Ok, Err, Option, Result, sym, refl, ap, ◌∙◌, subst, arith, get_or-set_same}
+use Rattle.std.proofs.lemmas.Int.{ints}
 use Rattle.std.proofs.lemmas.List.{take_at}
-use Rattle.std.proofs.lemmas.Bool.{leb-true}
 use Rattle.std.specs.Option.{option_map}
-use Rattle.measures.specs.Measures.{is_class, is_unit}
 use Rattle.measures.specs.declared.number.Day.{Day}
 use Rattle.measures.specs.declared.refusal.Refusal.{Refusal}
-use Rattle.forms.specs.Rows.{lines_of}
 use Rattle.forms.specs.declared.line.FormLine.{FormLine}
 use Rattle.tariff.specs.Rates.{rate_of, no_rate}
 use Rattle.tariff.specs.Terms.{terms_in}
 use Rattle.units.specs.Unit.{newly_enrolled, noticed, with_waiting}
 use Rattle.units.specs.Units.{unit_of}
-use Rattle.units.specs.Waiting.{as_filed, Shows}
+use Rattle.units.specs.Waiting.{WaitingForm, as_filed, Shows}
 use Rattle.units.specs.declared.unit.Unit.{Unit as Enrolled}
-use Rattle.units.specs.declared.waiting.WaitingForm.{WaitingForm}
-use Rattle.units.proofs.Places.{get_d_replicate}
 use Rattle.ledger.specs.Calls.{Opened, OnUnits}
 use Rattle.ledger.specs.declared.book.Book.{Book}
 use Rattle.journal.specs.Page.{UnitCall, enrol, notice, form, enter, Call, of_unit, basic, of_recovery, AnswerTo, noted, Page}
-use Rattle.journal.specs.Counts.{market_revenue}
-use Rattle.journal.specs.Told.{Told, day_on, rate_on, shown, standing_after, terms_on, unit_on}
+use Rattle.journal.specs.Told.{Told, day_on, rate_on, form_shown, shown, standing_after, terms_on, unit_on}
 use Rattle.journal.specs.Worlds.{Does, Ends, CreditedAs, Reached, opening, called, between}
 use Rattle.journal.specs.Law.{Kept, WaitsAs}
-use Rattle.journal.proofs.Telling.{mapped_mapped, get_or_set_mapped, changed_shown, unit_after, units_told, rates_told}
-use Rattle.journal.proofs.Summing.{Sums, sums_opened, sums_still, sums_entered, one_count, balance_settled, whole_settled}
+use Rattle.journal.proofs.Telling.{mapped_mapped, get_or-replicate_default, get_or_set_mapped, changed_shown, unit_after, units_told, rates_told}
+use Rattle.journal.proofs.Summing.{Sums, sums_opened, sums_still, sums_entered}
 
 -- what is kept, by the parts of the book
 record Held (page : Page) (b : Book) : Type 0 where
@@ -37,8 +32,8 @@ held_opened : (b : Book) → Opened b → Held [] b
 held_opened b open' = record {
   sums = sums_opened b.recovery open'.recovery;
   day = open'.day;
-  rates = λ class. ap (λ (xs : List _). (get_or xs class no_rate).0) open'.rates ∙ ap (λ r. r.0) (get_d_replicate 8 class no_rate);
-  units = λ unit. ap (option_map shown) (ap (λ (xs : List _). get_or xs unit None) open'.units ∙ get_d_replicate 32 unit None);
+  rates = λ class. grind (arith, open'.rates, get_or-replicate_default 8 class no_rate);
+  units = λ unit. grind (arith, open'.units, get_or-replicate_default {A = Option Enrolled} 32 unit None);
 }
 
 -- a refused call leaves the book as it was
@@ -50,12 +45,12 @@ refused (basic class rate) refusal b b' does = does.1
 refused (of_recovery (enter kind cents)) refusal b b' does = does.1
 
 held_refused : (call : Call) (refusal : Refusal) (page : Page) (b b' : Book) → b' ≡ b → Held page b → Held (noted call (Err refusal) ∷ page) b'
-held_refused call refusal page b b' same held = subst (Held (noted call (Err refusal) ∷ page)) (sym same) (record {
-  sums = sums_still (noted call (Err refusal)) page b.recovery b.recovery refl refl held.sums;
-  day = held.day;
-  rates = held.rates;
-  units = held.units;
-})
+held_refused call refusal page b b' same held = record {
+  sums = sums_still (noted call (Err refusal)) page b.recovery b'.recovery refl (grind arith) held.sums;
+  day = grind (arith, held.day);
+  rates = λ class. grind (arith, held.rates class);
+  units = λ unit. grind (arith, held.units unit);
+}
 
 -- an accepted call on a unit: the unit is what the call makes of it
 held_unit : (page : Page) (n : ℕ) (call : UnitCall) (y : Option Enrolled) (b b' : Book) (today : _) → OnUnits (set b.units.units n y) today b b'
@@ -63,8 +58,8 @@ held_unit : (page : Page) (n : ℕ) (call : UnitCall) (y : Option Enrolled) (b b
     → Held page b → Held (noted (of_unit n call) (Ok tt) ∷ page) b'
 held_unit page n call y b b' today on dated here held = record {
   sums = sums_still (noted (of_unit n call) (Ok tt)) page b.recovery b'.recovery refl on.recovery held.sums;
-  day = ap (λ d. d.0) on.day ∙ dated;
-  rates = λ class. ap (λ r. rate_of r class) on.rates ∙ held.rates class;
+  day = grind (arith, on.day, dated);
+  rates = λ class. grind (arith, on.rates, held.rates class);
   units = units_told b.units.units b'.units.units y page n call on.units held.units here;
 }
 
@@ -73,51 +68,46 @@ changed_here : (page : Page) (n : ℕ) (call : UnitCall) (change : Enrolled → 
     → ((u : Enrolled) → shown (change u) ≡ change' (shown u)) → option_map shown (get_or xs n None) ≡ unit_on page n
     → option_map change' (unit_on page n) ≡ unit_after (Some call) page n → option_map shown (get_or (set xs n (option_map change (get_or xs n None))) n None) ≡ unit_after (Some call) page n
 changed_here page n call change change' xs same before is =
-    ap (option_map shown) (get_or_set_mapped change xs n) ∙ changed_shown change change' same (get_or xs n None) ∙ ap (option_map change') before ∙ is
+    grind (arith, get_or_set_mapped change xs n, changed_shown change change' same (get_or xs n None), before, is)
 
--- a notice and a form, by what a unit shows
-abbrev notice_shown : ℕ → Day → Told → Told
-notice_shown number day u = record { terms = u.terms; standing = standing_after (notice number day) u.standing; waiting = u.waiting }
+-- what a notice and a form change of what a unit shows
+abbrev notice_told : ℕ → Day → Told → Told
+notice_told number day u = record u { standing = standing_after (notice number day) u.standing }
 
-abbrev form_shown : Day → List FormLine → Told → Told
-form_shown day lines u = record { terms = u.terms; standing = u.standing; waiting = Some (record { day = day; lines = lines }) }
+abbrev form_told : Day → List FormLine → Told → Told
+form_told day lines u = record u { waiting = Some (record { day = day; lines = lines }) }
 
 -- the lines of a filed form are those that were given
-filed_shown : (day : Day) (lines : List FormLine) (u : Enrolled) → shown (with_waiting day lines u) ≡ form_shown day lines (shown u)
-filed_shown day lines u =
-    ap (λ (ls : List FormLine). form_shown day ls (shown u)) (take_at lines _ (length lines) refl)
-
--- where a chain of tests has no reason, its first test holds
-first_holds : (test : Bool) (reason : Refusal) (next : Option Refusal) → cond test next (Some reason) ≡ None → test ≡ true
-first_holds true reason next h = refl
-first_holds false reason next h = absurd (let z : ◌≡◌ {A = ℕ} 0 1 = cc in omega arith)
+filed_shown : (day : Day) (lines : List FormLine) (u : Enrolled) → shown (with_waiting day lines u) ≡ form_told day lines (shown u)
+filed_shown day lines u = ap (λ (ls : List FormLine). form_told day ls (shown u)) (take_at lines _ (length lines) refl)
 
 held_accepted : (call : Call) (answer : AnswerTo call) (page : Page) (b b' : Book) → Does call b (Ok answer) b' → Held page b → Held (noted call (Ok answer) ∷ page) b'
 held_accepted (of_unit n (enrol given)) answer page b b' does held =
-    let within : n < length b.units.units = omega (arith, leb-true n 31 (first_holds (is_unit n) _ _ does.0), b.units.slots) in
-    held_unit page n (enrol given) _ b b' b.day does.1 held.day (ap (option_map shown) (get_or-set_same b.units.units n _ None within) ∙ mapped_mapped newly_enrolled shown (terms_in given)) held
+    let within : n < length b.units.units = grind (arith, does.0, b.units.slots) in
+    held_unit page n (enrol given) _ b b' b.day does.1 held.day
+    (grind (arith, get_or-set_same b.units.units n (option_map newly_enrolled (terms_in given)) None within, mapped_mapped newly_enrolled shown (terms_in given))) held
 held_accepted (of_unit n (notice number day)) answer page b b' does held =
     held_unit page n (notice number day) _ b b' b.day does.1 held.day
-    (changed_here page n (notice number day) (noticed number day) (notice_shown number day) b.units.units (λ u. refl) (held.units n) (mapped_mapped _ (notice_shown number day) (terms_on page n))) held
+    (changed_here page n (notice number day) (noticed number day) (notice_told number day) b.units.units (λ u. refl) (held.units n) (mapped_mapped _ (notice_told number day) (terms_on page n))) held
 held_accepted (of_unit n (form day lines)) answer page b b' does held =
     held_unit page n (form day lines) _ b b' day does.1 refl
-    (changed_here page n (form day lines) (with_waiting day lines) (form_shown day lines) b.units.units (filed_shown day lines) (held.units n) (mapped_mapped _ (form_shown day lines) (terms_on page n))) held
+    (changed_here page n (form day lines) (with_waiting day lines) (form_told day lines) b.units.units (filed_shown day lines) (held.units n) (mapped_mapped _ (form_told day lines) (terms_on page n))) held
 held_accepted (basic class rate) answer page b b' does held =
     let on = does.1 in
-    let within : class < length b.rates.rates = omega (arith, leb-true class 7 (first_holds (is_class class) _ _ does.0), b.rates.slots) in
+    let within : class < length b.rates.rates = grind (arith, does.0, b.rates.slots) in
     record {
       sums = sums_still (noted (basic class rate) (Ok tt)) page b.recovery b'.recovery refl on.recovery held.sums;
-      day = ap (λ d. d.0) on.day ∙ held.day;
+      day = grind (arith, on.day, held.day);
       rates = rates_told b.rates.rates b'.rates.rates page class rate on.rates within held.rates;
-      units = λ unit. ap (λ us. option_map shown (unit_of us unit)) on.units ∙ held.units unit;
+      units = λ unit. grind (arith, on.units, held.units unit);
     }
 held_accepted (of_recovery (enter kind cents)) answer page b b' does held =
     let on = does.1 in
     record {
       sums = sums_entered page b.recovery b'.recovery kind cents on.recovery held.sums;
-      day = ap (λ d. d.0) on.day ∙ held.day;
-      rates = λ class. ap (λ r. rate_of r class) on.rates ∙ held.rates class;
-      units = λ unit. ap (λ us. option_map shown (unit_of us unit)) on.units ∙ held.units unit;
+      day = grind (arith, on.day, held.day);
+      rates = λ class. grind (arith, on.rates, held.rates class);
+      units = λ unit. grind (arith, on.units, held.units unit);
     }
 
 held_called : (call : Call) (answer : Result (AnswerTo call) Refusal) (page : Page) (b b' : Book) → Does call b answer b' → Held page b → Held (noted call answer ∷ page) b'
@@ -136,14 +126,11 @@ credits_kept start page b ends (called call answer before b₀ _ _ reached does)
 credits_kept start page b ends (between _ _ ends₀ _ reached same) = λ end account. same end account ∙ credits_kept start page b ends₀ reached end account
 
 -- what is shown of a unit's waiting form is what the page tells
-waits_as : (unit : Option Enrolled) (answer : Result (Option WaitingForm) Refusal) (told : Option Told) → option_map shown unit ≡ told → Shows unit answer → WaitsAs told answer
-waits_as unit answer told is shows = subst (λ t. WaitsAs t answer) is (by_unit unit answer shows)
-  where
-    by_unit : (u : Option Enrolled) (r : Result (Option WaitingForm) Refusal) → Shows u r → WaitsAs (option_map shown u) r
-    by_unit (Some u) (Ok waiting) says = sym (mapped_mapped as_filed (λ filed. record { day = filed.day; lines = lines_of filed.row }) waiting) ∙ ap (option_map (λ filed. record { day = filed.day; lines = lines_of filed.row })) says
-    by_unit (Some u) (Err refusal) says = says
-    by_unit None (Ok waiting) says = says
-    by_unit None (Err refusal) says = says
+waits_as : (unit : Option Enrolled) (answer : Result (Option WaitingForm) Refusal) → Shows unit answer → WaitsAs (option_map shown unit) answer
+waits_as (Some u) (Ok waiting) says = sym (mapped_mapped as_filed form_shown waiting) ∙ ap (option_map form_shown) says
+waits_as (Some u) (Err refusal) says = says
+waits_as None (Ok waiting) says = says
+waits_as None (Err refusal) says = says
 
 pub lifelong : (start : ℕ → ℕ → ℕ) (page : Page) (b : Book) (ends : Ends) → Reached start page b ends → Kept start page b ends
 lifelong start page b ends reached =
@@ -153,11 +140,11 @@ lifelong start page b ends reached =
       costs_entered = sums.entered;
       costs_not_in_balance = sums.waiting;
       market_revenue_entered = sums.revenue;
-      balance = λ revenue counts. balance_settled b.recovery sums.all_wait ∙ ap (λ n. neg_ℤ (pos n)) (one_count page market_revenue b.recovery.revenue.0 revenue sums.revenue counts);
-      whole = whole_settled b.recovery sums.all_wait;
+      balance = λ revenue counts. omega (arith, ints, sums.all_wait, sums.revenue, counts);
+      whole = omega (arith, ints, sums.all_wait);
       day = held.day;
       rates = held.rates;
       units = held.units;
-      waiting_form = λ unit answer shows. waits_as (unit_of b.units unit) answer (unit_on page unit) (held.units unit) shows;
+      waiting_form = λ unit answer shows. subst (λ told. WaitsAs told answer) (held.units unit) (waits_as (unit_of b.units unit) answer shows);
       credits = credits_kept start page b ends reached;
     }

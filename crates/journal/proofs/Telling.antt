@@ -1,5 +1,5 @@
 -- The units and the rates after a call are those that the page with its line tells of.
-use Rattle.std.proofs.Common.{◌≡◌, ℕ, zero, suc, ◌<◌, Bool, cond, eqb, List, [], ◌∷◌, length, get_or, set, Some, None, Ok, Option, unwrap_or, sym, refl, ap, ◌∙◌, inl, inr, get_or-set_other, get_or-set_same}
+use Rattle.std.proofs.Common.{◌≡◌, ℕ, zero, suc, ◌<◌, eqb, List, [], ◌∷◌, length, get_or, set, replicate, Some, None, Ok, Option, refl, ap, get_or-set_other, get_or-set_same, arith}
 use Rattle.std.proofs.lemmas.Bool.{cases_Bool, eqb-true, eqb-false}
 use Rattle.std.specs.Option.{option_map}
 use Rattle.measures.specs.declared.measure.Rate.{Rate}
@@ -13,6 +13,12 @@ use Rattle.journal.specs.Told.{after_call, terms_after, terms_on, standing_after
 pub mapped_mapped : {A B C : Type 0} (f : A → B) (g : B → C) (o : Option A) → option_map g (option_map f o) ≡ option_map (λ x. g (f x)) o
 mapped_mapped f g None = refl
 mapped_mapped f g (Some x) = refl
+
+-- where the default stands in all places, it is read at each
+pub get_or-replicate_default : {A : Type 0} (count n : ℕ) (d : A) → get_or (replicate count d) n d ≡ d
+get_or-replicate_default zero n d = refl
+get_or-replicate_default (suc count) zero d = refl
+get_or-replicate_default (suc count) (suc n) d = get_or-replicate_default count n d
 
 -- a thing that may be missing, changed where it stands
 pub get_or_set_mapped : {A : Type 0} (f : A → A) (xs : List (Option A)) (n : ℕ) → get_or (set xs n (option_map f (get_or xs n None))) n None ≡ option_map f (get_or xs n None)
@@ -36,31 +42,12 @@ pub units_told : (xs ys : List (Option Enrolled)) (y : Option Enrolled) (page : 
     → ys ≡ set xs n y → ((unit : ℕ) → option_map shown (get_or xs unit None) ≡ unit_on page unit) → option_map shown (get_or (set xs n y) n None) ≡ unit_after (Some call) page n
     → (unit : ℕ) → option_map shown (get_or ys unit None) ≡ unit_on (noted (of_unit n call) (Ok tt) ∷ page) unit
 units_told xs ys y page n call is before here unit =
-    elim (cases_Bool (eqb unit n)) [
-      | inl e ↦
-          let same : unit ≡ n = eqb-true unit n e in
-          ap (λ (zs : List (Option Enrolled)). option_map shown (get_or zs unit None)) is
-          ∙ ap (λ k. option_map shown (get_or (set xs n y) k None)) same ∙ here ∙ ap (unit_after (Some call) page) (sym same)
-          ∙ ap (λ t. unit_after (cond t (Some call) None) page unit) (sym e)
-      | inr e ↦
-          ap (λ (zs : List (Option Enrolled)). option_map shown (get_or zs unit None)) is
-          ∙ ap (option_map shown) (get_or-set_other xs n unit y None (eqb-false unit n e)) ∙ before unit
-          ∙ ap (λ t. unit_after (cond t (Some call) None) page unit) (sym e)
-    ]
+    grind (arith, is, cases_Bool (eqb unit n), eqb-true unit n, eqb-false unit n, get_or-set_other xs n unit y None, here, before unit)
 
 -- the same for the rates of the classes
 pub rates_told : (xs ys : List Rate) (page : Page) (class rate : ℕ)
     → ys ≡ set xs class (record { 0 = rate }) → class < length xs → ((k : ℕ) → (get_or xs k no_rate).0 ≡ rate_on page k)
     → (k : ℕ) → (get_or ys k no_rate).0 ≡ rate_on (noted (basic class rate) (Ok tt) ∷ page) k
 rates_told xs ys page class rate is within before k =
-    let after : Bool → ℕ = λ t. unwrap_or (cond t (Some rate) None) (rate_on page k) in
     let new : Rate = record { 0 = rate } in
-    elim (cases_Bool (eqb k class)) [
-      | inl e ↦
-          ap (λ (zs : List Rate). (get_or zs k no_rate).0) is
-          ∙ ap (λ j. (get_or (set xs class new) j no_rate).0) (eqb-true k class e)
-          ∙ ap (λ (r : Rate). r.0) (get_or-set_same xs class new no_rate within) ∙ ap after (sym e)
-      | inr e ↦
-          ap (λ (zs : List Rate). (get_or zs k no_rate).0) is
-          ∙ ap (λ (r : Rate). r.0) (get_or-set_other xs class k new no_rate (eqb-false k class e)) ∙ before k ∙ ap after (sym e)
-    ]
+    grind (arith, is, cases_Bool (eqb k class), eqb-true k class, eqb-false k class, get_or-set_same xs class new no_rate within, get_or-set_other xs class k new no_rate, before k)

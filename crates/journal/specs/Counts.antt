@@ -1,6 +1,6 @@
 -- The ledger of a page: what each accepted call moves into or out of a column, in cents. A refused call moves nothing.
-use Rattle.std.specs.Prelude.{◌≡◌, ℕ, ◌+◌, cond, List, [], ◌∷◌, Ok, Err, ◌==◌}
-use Rattle.recovery.specs.Entering.{is_costs, is_revenue}
+use Rattle.std.specs.Prelude.{◌≡◌, ℕ, ◌+◌, cond, List, [], ◌∷◌, Ok, Err, ◌==◌, sum_by}
+use Rattle.recovery.specs.Kinds.{is_costs, is_revenue}
 use Rattle.journal.specs.Page.{RecoveryCall, enter, Call, of_unit, basic, of_recovery, AnswerTo, Line, noted, Page}
 
 -- the columns
@@ -49,11 +49,6 @@ coming_in column (out_of other cents) = 0
 abbrev pub going_out : Column → Move → ℕ
 going_out column (into other cents) = 0
 going_out column (out_of other cents) = cond (column_number column == column_number other) cents 0
-
--- the sum over moves
-abbrev pub sum_by : (Move → ℕ) → List Move → ℕ
-sum_by amount [] = 0
-sum_by amount (move ∷ rest) = amount move + sum_by amount rest
 
 -- all cents that came into a column along a page
 abbrev pub came_in : Page → Column → ℕ

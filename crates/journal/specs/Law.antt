@@ -6,7 +6,7 @@ use Rattle.measures.specs.declared.refusal.Refusal.TheVariants.{Unlisted}
 use Rattle.forms.specs.Rows.{lines_of}
 use Rattle.tariff.specs.Rates.{rate_of}
 use Rattle.units.specs.Units.{unit_of}
-use Rattle.units.specs.declared.waiting.WaitingForm.{WaitingForm}
+use Rattle.units.specs.Waiting.{WaitingForm}
 use Rattle.ledger.specs.Queries as query
 use Rattle.ledger.specs.declared.book.Book.{Book}
 use Rattle.journal.specs.Page.{Page}

@@ -1,16 +1,16 @@
 -- What a page tells of the book's day, of the rates of the classes, and of each unit. A refused call tells nothing.
-use Rattle.std.specs.Prelude.{ℕ, cond, List, [], ◌∷◌, Some, None, Ok, Err, Option, ◌==◌}
-use Rattle.std.specs.Option.{option_map, unwrap_or}
-use Rattle.measures.specs.Optional.{from}
+use Rattle.std.specs.Prelude.{ℕ, cond, List, [], ◌∷◌, Some, None, Ok, Err, Option, ◌==◌, option_and_then, option_map, unwrap_or}
 use Rattle.measures.specs.declared.number.Day.{Day}
 use Rattle.forms.specs.Rows.{lines_of}
 use Rattle.forms.specs.declared.line.FormLine.{FormLine}
+use Rattle.forms.specs.declared.row.FormRow.{FormRow}
 use Rattle.tariff.specs.Standings.{notice_in, moved}
 use Rattle.tariff.specs.Terms.{terms_in}
 use Rattle.tariff.specs.declared.standing.Standing.{Standing}
 use Rattle.tariff.specs.declared.standing.Standing.TheVariants.{Waiting}
 use Rattle.tariff.specs.declared.terms.Terms.{Terms}
 use Rattle.units.specs.declared.unit.Unit.{Unit as Enrolled}
+use Rattle.units.specs.declared.waiting.Received.{Received}
 use Rattle.journal.specs.Page.{UnitCall, enrol, notice, form, Call, of_unit, basic, of_recovery, Line, noted, Page}
 
 -- the call of a line, if it was accepted
@@ -32,7 +32,7 @@ day_set (of_recovery call) = None
 -- the book's day: that of the newest accepted dated call, and 0 before the first
 abbrev pub day_on : Page → ℕ
 day_on [] = 0
-day_on (newest ∷ page) = unwrap_or (from (accepted newest) day_set) (day_on page)
+day_on (newest ∷ page) = unwrap_or (option_and_then day_set (accepted newest)) (day_on page)
 
 -- the rate that a call sets for a class
 abbrev pub rate_set : ℕ → Call → Option ℕ
@@ -43,7 +43,7 @@ rate_set class (of_recovery call) = None
 -- the Basic Service rate of a class: the newest that was accepted for it, and 0 before the first
 abbrev pub rate_on : Page → ℕ → ℕ
 rate_on [] class = 0
-rate_on (newest ∷ page) class = unwrap_or (from (accepted newest) (rate_set class)) (rate_on page class)
+rate_on (newest ∷ page) class = unwrap_or (option_and_then (rate_set class) (accepted newest)) (rate_on page class)
 
 -- the call on a unit, if it is one
 abbrev pub call_at : ℕ → Call → Option UnitCall
@@ -53,7 +53,7 @@ call_at unit (of_recovery call) = None
 
 -- the accepted call of a line on a unit, if it is one
 abbrev pub accepted_at : ℕ → Line → Option UnitCall
-accepted_at unit newest = from (accepted newest) (call_at unit)
+accepted_at unit newest = option_and_then (call_at unit) (accepted newest)
 
 -- what an accepted call makes of something about its unit
 abbrev pub after_call : {A : Type 0} → Option UnitCall → (UnitCall → A → A) → A → A
@@ -73,7 +73,7 @@ terms_on (newest ∷ page) unit = after_call (accepted_at unit newest) terms_aft
 -- the standing of a unit is waiting at its enrolment, and moves with each notice
 abbrev pub standing_after : UnitCall → Standing → Standing
 standing_after (enrol given) before = Waiting
-standing_after (notice number day) before = unwrap_or (from (notice_in number) (λ notice. moved before notice day)) before
+standing_after (notice number day) before = unwrap_or (option_and_then (λ notice. moved before notice day) (notice_in number)) before
 standing_after (form day lines) before = before
 
 abbrev pub standing_on : Page → ℕ → Standing
@@ -105,6 +105,10 @@ pub record Told : Type 0 where
 abbrev pub unit_on : Page → ℕ → Option Told
 unit_on page unit = option_map (λ terms. record { terms = terms; standing = standing_on page unit; waiting = waiting_on page unit }) (terms_on page unit)
 
--- what a unit of the book shows of itself: a form on file by its day and its lines
+-- what a form on file shows of itself: its day and its lines
+abbrev pub form_shown : Received FormRow → FormTold
+form_shown filed = record { day = filed.day; lines = lines_of filed.form }
+
+-- what a unit of the book shows of itself
 abbrev pub shown : Enrolled → Told
-shown u = record { terms = u.terms; standing = u.standing; waiting = option_map (λ filed. record { day = filed.day; lines = lines_of filed.row }) u.waiting }
+shown u = record { terms = u.terms; standing = u.standing; waiting = option_map form_shown u.waiting }

@@ -1,19 +1,15 @@
 // What the calls and queries do, by example over the whole book.
 use crate::book::Book;
 use forms::{FormLine, WHOLE_WEIGHT};
-use measures::{AccountNumber, Cents, ClassNumber, Day, Rate, Refusal, UnitNumber};
-use std::test::Fail;
-use tariff::Enrolment;
+use measures::{AccountNumber, Answer, Cents, ClassNumber, Day, Rate, Row, UnitNumber};
+use tariff::{Enrolment, Particulars};
 use units::WaitingForm;
 
 const UNIT: UnitNumber = UnitNumber(5);
 
 // The number of a refusal, or 0.
-fn refused(answer: Result<(), Refusal>) -> u8 {
-    match answer {
-        Ok(()) => 0,
-        Err(refusal) => refusal.number(),
-    }
+fn refused(answer: Answer) -> u8 {
+    Row::from(answer).refusal
 }
 
 // An enrolment of these numbers.
@@ -21,14 +17,16 @@ fn given(place: u64, class: u64, watts: u64, day: u64, adder: u64) -> Enrolment 
     Enrolment {
         place,
         energy: 3,
-        class: ClassNumber(class),
-        watts,
-        qualified: Day(day),
-        base: Rate(20_000),
-        adder: Rate(adder),
-        subtractor: Rate(250),
-        charges: Rate(0),
-        average: Rate(0),
+        particulars: Particulars {
+            class: ClassNumber(class),
+            watts,
+            qualified: Day(day),
+            base: Rate(20_000),
+            adder: Rate(adder),
+            subtractor: Rate(250),
+            charges: Rate(0),
+            average: Rate(0),
+        },
     }
 }
 
@@ -48,27 +46,12 @@ fn line(account: u64, weight: u64) -> FormLine {
 
 // The form that waits at a unit, if one is shown.
 fn waiting_at(book: &Book, unit: UnitNumber) -> Option<WaitingForm> {
-    match book.waiting_form(unit) {
-        Ok(waiting) => waiting,
-        Err(_) => None,
-    }
+    book.waiting_form(unit).unwrap_or(None)
 }
 
 // Whether this waiting form was received on that day, and has these two lines.
 fn is_of(waiting: WaitingForm, day: u64, lines: [FormLine; 2]) -> bool {
-    let shown = waiting.form.lines();
-    if shown.len() != 2 {
-        return false;
-    }
-    for i in 0..2 {
-        if i >= shown.len()
-            || shown[i].account.0 != lines[i].account.0
-            || shown[i].weight != lines[i].weight
-        {
-            return false;
-        }
-    }
-    waiting.day.0 == day
+    waiting.day == Day(day) && waiting.form.lines() == lines.as_slice()
 }
 
 #[test]
@@ -129,7 +112,7 @@ fn a_unit_moves_by_notices(rt: HostRuntime) {
 }
 
 #[test]
-fn forms_come_in_the_order_of_days(rt: HostRuntime) -> Result<(), Fail> {
+fn forms_come_in_the_order_of_days(rt: HostRuntime) {
     let mut book = with_a_unit();
     let whole = [line(7, 1), line(9, WHOLE_WEIGHT - 1)];
     let newest = [line(3, 2), line(7, WHOLE_WEIGHT - 2)];
@@ -142,20 +125,9 @@ fn forms_come_in_the_order_of_days(rt: HostRuntime) -> Result<(), Fail> {
     assert_eq!(rt; refused(book.form(UNIT, Day(1_000), &whole)), 0);
     assert_eq!(rt; refused(book.form(UNIT, Day(999), &[])), 4);
     assert_eq!(rt; refused(book.form(UNIT, Day(1_000), &newest)), 0);
-    match waiting_at(&book, UNIT) {
-        Some(waiting) => assert!(rt; is_of(waiting, 1_000, newest)),
-        None => assert!(rt; false),
-    }
-    match book.waiting_form(UnitNumber(6)) {
-        Ok(_) => {
-            assert!(rt; false);
-            Ok(())
-        },
-        Err(refusal) => {
-            assert_eq!(rt; refusal.number(), 1);
-            Ok(())
-        },
-    }
+    assert!(rt; waiting_at(&book, UNIT).is_some_and(|waiting| is_of(waiting, 1_000, newest)));
+    let unlisted = book.waiting_form(UnitNumber(6)).err();
+    assert_eq!(rt; unlisted.map(|refusal| refusal.number()), Some(1));
 }
 
 #[test]

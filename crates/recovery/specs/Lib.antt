@@ -1,1 +1,4 @@
+-- What the contracts of this crate cite.
+pub mod Kinds
+pub mod Limits
 pub mod Entering

@@ -1,6 +1,7 @@
 // The sums that the recovery of costs keeps.
-ghost use Rattle.std.specs.Prelude.{◌^◌, ◌≤◌};
+ghost use Rattle.std.specs.Prelude.{◌≤◌};
 
+use crate::total::Total;
 use measures::Cents;
 
 mod calls;
@@ -10,12 +11,10 @@ mod queries;
 #[derive(Drop)]
 pub struct Recovery {
     // all costs ever entered
-    costs: Cents,
+    costs: Total,
     // the costs that are not yet in the balance
     waiting: Cents,
     // all market revenue ever entered
-    revenue: Cents,
-    ghost costs_bounded: { costs.0 ≤ 10 ^ 12 },
-    ghost waiting_among_costs: { waiting.0 ≤ costs.0 },
-    ghost revenue_bounded: { revenue.0 ≤ 10 ^ 12 },
+    revenue: Total,
+    ghost waiting_among_costs: { waiting.0 ≤ costs.cents.0 },
 }

@@ -7,4 +7,4 @@ mod terms;
 
 pub use rates::BasicRates;
 pub use standing::{Notice, Standing};
-pub use terms::{Energy, Enrolment, Place, Terms};
+pub use terms::{Energy, Enrolment, Particulars, Place, Terms};

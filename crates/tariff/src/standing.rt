@@ -1,11 +1,12 @@
 // Where a unit stands in the programme, and the notices that move it.
-ghost use Rattle.std.specs.Prelude.{◌≡◌};
+ghost use Rattle.std.specs.Prelude.{◌≡◌, ok_or};
+ghost use Rattle.measures.specs.declared.refusal.Refusal.TheVariants.{OutOfRange};
 ghost use Rattle.tariff.specs.Standings.{notice_in};
 
-use measures::Day;
+use measures::{Day, Refusal};
 
 /// The standing of a unit. An active or suspended unit has its effective day, from which it is paid.
-#[derive(Clone, Copy)]
+#[derive(Clone, Copy, PartialEq, Eq, Debug)]
 pub enum Standing {
     /// Enrolled, and not yet authorised.
     Waiting,
@@ -18,7 +19,7 @@ pub enum Standing {
 }
 
 /// What an operator is told of a unit.
-#[derive(Clone, Copy)]
+#[derive(Clone, Copy, PartialEq, Eq, Debug)]
 pub enum Notice {
     Authorised,
     NonCompliant,
@@ -26,17 +27,19 @@ pub enum Notice {
     Revoked,
 }
 
-impl Notice {
-    /// The notice of a number, from 1 to 4.
-    pub fn from_number(number: u64) -> Option<Notice>
-        ensures { result ≡ notice_in number }
-    {
+// The notice of a number, from 1 to 4.
+impl TryFrom<u64> for Notice {
+    type Error = Refusal;
+
+    ghost try_from_gives = { λ number notice. notice ≡ ok_or (notice_in number) OutOfRange };
+
+    fn try_from(number: u64) -> Result<Notice, Refusal> {
         match number {
-            1 => Some(Notice::Authorised),
-            2 => Some(Notice::NonCompliant),
-            3 => Some(Notice::Remedied),
-            4 => Some(Notice::Revoked),
-            _ => None,
+            1 => Ok(Notice::Authorised),
+            2 => Ok(Notice::NonCompliant),
+            3 => Ok(Notice::Remedied),
+            4 => Ok(Notice::Revoked),
+            _ => Err(Refusal::OutOfRange),
         }
     }
 }

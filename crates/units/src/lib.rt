@@ -7,4 +7,4 @@ mod waiting;
 
 pub use part::Units;
 pub use unit::Unit;
-pub use waiting::WaitingForm;
+pub use waiting::{Received, WaitingForm};

@@ -1,4 +1,5 @@
 // The calls. Each is refused for the first reason in the order of its rules, and then leaves the book as it was.
+// A notice and the kind of an entry come as numbers, since a call takes any number and answers it.
 ghost use Rattle.ledger.specs.Calls.{Enrols, Enters, Forms, Notices, Opened, SetsBasic};
 
 use super::Book;

@@ -2,13 +2,12 @@
 ghost use Rattle.recovery.specs.Entering.{Enters, Unentered};
 
 use super::Recovery;
+use crate::entry::Entry;
+use crate::total::Total;
 use measures::{Cents, Refusal};
 
 /// The most cents that are entered at once.
 const MOST_AT_ONCE: u64 = 100_000_000_000;
-
-/// The most cents that are ever entered of a kind.
-const MOST_IN_ALL: u64 = 1_000_000_000_000;
 
 impl Recovery {
     /// Nothing entered yet.
@@ -16,34 +15,26 @@ impl Recovery {
         ensures { Unentered result }
     {
         Recovery {
-            costs: Cents(0),
+            costs: Total { cents: Cents(0) },
             waiting: Cents(0),
-            revenue: Cents(0),
+            revenue: Total { cents: Cents(0) },
         }
     }
 
-    /// Enters cents of a kind: 1 adds costs, which wait to join the balance, and 2 adds market revenue.
+    /// Enters cents of a kind, which may be any number: 1 adds costs, which wait to join the balance, and 2 adds market revenue.
     pub fn enter(&mut self, kind: u64, amount: Cents) -> Result<(), Refusal>
         ensures { Enters self.old kind amount.0 result self.new }
     {
+        let entry = Entry::try_from(kind)?;
         if amount.0 > MOST_AT_ONCE {
             return Err(Refusal::OutOfRange);
         }
-        match kind {
-            1 => {
-                if self.costs.0 + amount.0 > MOST_IN_ALL {
-                    return Err(Refusal::LimitPassed);
-                }
-                self.costs = Cents(self.costs.0 + amount.0);
+        match entry {
+            Entry::Costs => {
+                self.costs.add(amount)?;
                 self.waiting = Cents(self.waiting.0 + amount.0);
             }
-            2 => {
-                if self.revenue.0 + amount.0 > MOST_IN_ALL {
-                    return Err(Refusal::LimitPassed);
-                }
-                self.revenue = Cents(self.revenue.0 + amount.0);
-            }
-            _ => return Err(Refusal::OutOfRange),
+            Entry::MarketRevenue => self.revenue.add(amount)?,
         }
         Ok(())
     }

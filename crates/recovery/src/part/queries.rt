@@ -8,9 +8,9 @@ use measures::{Cents, SignedCents};
 impl Recovery {
     /// All costs ever entered.
     pub fn costs_entered(&self) -> Cents
-        ensures { result ≡ self.now.costs }
+        ensures { result ≡ self.now.costs.cents }
     {
-        self.costs
+        self.costs.cents
     }
 
     /// The costs that are not yet in the balance.
@@ -22,16 +22,16 @@ impl Recovery {
 
     /// All market revenue ever entered.
     pub fn market_revenue(&self) -> Cents
-        ensures { result ≡ self.now.revenue }
+        ensures { result ≡ self.now.revenue.cents }
     {
-        self.revenue
+        self.revenue.cents
     }
 
     /// What the rate classes still owe, or are owed where it is negative.
     pub fn balance(&self) -> SignedCents
         ensures { result.0 ≡ balance_of self.now }
     {
-        let joined = self.costs.0 - self.waiting.0;
-        SignedCents(joined as i64 - self.revenue.0 as i64)
+        let joined = self.costs.cents.0 - self.waiting.0;
+        SignedCents(joined as i64 - self.revenue.cents.0 as i64)
     }
 }

@@ -3,7 +3,7 @@ ghost use Rattle.std.specs.Prelude.{◌≡◌, replicate};
 ghost use Rattle.tariff.specs.Rates.{Sets, no_rate};
 
 use super::{BasicRates, CLASSES};
-use measures::{ClassNumber, Rate, Refusal};
+use measures::{ClassNumber, Ranged, Rate, Refusal};
 
 impl BasicRates {
     /// Rates that nobody has set yet: each is 0.

@@ -4,10 +4,10 @@ ghost use Rattle.units.specs.Units.{Enrols, Files, Notices, unit_of};
 ghost use Rattle.units.specs.Waiting.{Shows};
 
 use super::{PLACES, Units};
-use crate::unit::{Received, Unit};
-use crate::waiting::WaitingForm;
+use crate::unit::Unit;
+use crate::waiting::{Received, WaitingForm};
 use forms::{Form, FormLine};
-use measures::{Day, Refusal, UnitNumber};
+use measures::{Day, Ranged, Refusal, UnitNumber};
 use tariff::{Enrolment, Standing, Terms};
 
 impl Units {
@@ -27,28 +27,23 @@ impl Units {
         if !unit.is_in_range() {
             return Err(Refusal::Unlisted);
         }
-        if self.unit(unit).is_some() {
+        if self.enrolled(unit).is_ok() {
             return Err(Refusal::AlreadyEnrolled);
         }
-        let Some(terms) = Terms::from_enrolment(given) else {
-            return Err(Refusal::OutOfRange);
-        };
-        let enrolled = Unit {
-            terms,
+        let own = Unit {
+            terms: Terms::try_from(given)?,
             standing: Standing::Waiting,
             waiting: None,
         };
-        self.put(unit, enrolled);
+        self.put(unit, own);
         Ok(())
     }
 
-    /// Moves a unit's standing by a notice, given by its number.
+    /// Moves a unit's standing by a notice, given by its number, which may be any.
     pub fn notice(&mut self, unit: UnitNumber, number: u64, day: Day) -> Result<(), Refusal>
         ensures { Notices self.old unit.0 number day result self.new }
     {
-        let Some(mut own) = self.unit(unit) else {
-            return Err(Refusal::Unlisted);
-        };
+        let mut own = self.enrolled(unit)?;
         own.notice(number, day)?;
         self.put(unit, own);
         Ok(())
@@ -64,19 +59,17 @@ impl Units {
     ) -> Result<(), Refusal>
         ensures { Files self.old unit.0 day today lines.now result self.new }
     {
-        let Some(mut own) = self.unit(unit) else {
-            return Err(Refusal::Unlisted);
-        };
+        let mut own = self.enrolled(unit)?;
         if !day.is_in_range() {
             return Err(Refusal::OutOfRange);
         }
-        if day.0 < today.0 {
+        if day < today {
             return Err(Refusal::BeforeBookDay);
         }
         let form = Form::new(lines)?;
         own.waiting = Some(Received {
             day,
-            row: form.row(),
+            form: form.row(),
         });
         self.put(unit, own);
         Ok(())
@@ -86,18 +79,13 @@ impl Units {
     pub fn waiting_form(&self, unit: UnitNumber) -> Result<Option<WaitingForm>, Refusal>
         ensures { Shows (unit_of self.now unit.0) result }
     {
-        let Some(own) = self.unit(unit) else {
-            return Err(Refusal::Unlisted);
-        };
+        let own = self.enrolled(unit)?;
         let Some(received) = own.waiting else {
             return Ok(None);
         };
-        match Form::from_row(received.row) {
-            Some(form) => Ok(Some(WaitingForm {
-                day: received.day,
-                form,
-            })),
-            None => unreachable(),
-        }
+        Ok(Some(Received {
+            day: received.day,
+            form: Form::try_from(received.form).unwrap(),
+        }))
     }
 }

@@ -1,23 +1,24 @@
 // The unit at a place, and how one is written there.
-ghost use Rattle.std.specs.Prelude.{◌≡◌, ◌<◌, true, Some, OnSome, slice_set};
-ghost use Rattle.units.specs.Unit.{filed, unit_filed};
+ghost use Rattle.std.specs.Prelude.{◌≡◌, ◌<◌, true, Some, ok_or, IfOk, OnOk, slice_set};
+ghost use Rattle.measures.specs.declared.refusal.Refusal.TheVariants.{Unlisted};
+ghost use Rattle.units.specs.Unit.{filed};
 ghost use Rattle.units.specs.Units.{unit_of};
 
 use super::Units;
 use crate::unit::Unit as Enrolled;
-use measures::UnitNumber;
+use measures::{Ranged, Refusal, UnitNumber};
 
 impl Units {
     /// The unit of a number, if it is enrolled.
-    pub(super) fn unit(&self, unit: UnitNumber) -> Option<Enrolled>
-        ensures found { result ≡ unit_of self.now unit.0 }
-        ensures lawful { unit_filed result ≡ true }
-        ensures place { OnSome result (unit.0 < 32) }
+    pub(super) fn enrolled(&self, unit: UnitNumber) -> Result<Enrolled, Refusal>
+        ensures found { result ≡ ok_or (unit_of self.now unit.0) Unlisted }
+        ensures lawful { IfOk result (λ own. filed own.waiting ≡ true) }
+        ensures place { OnOk result (unit.0 < 32) }
     {
         if !unit.is_in_range() {
-            return None;
+            return Err(Refusal::Unlisted);
         }
-        self.units[unit.0 as usize]
+        self.units[unit.0 as usize].ok_or(Refusal::Unlisted)
     }
 
     /// Puts a unit in the place of its number.
