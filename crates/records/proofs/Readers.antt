@@ -35,7 +35,7 @@ pub taken_open : (f : Reader) (p : List ℕ) → f.status ≡ Open → Holds f p
 taken_open f p s u = subst (λ x. TakenAs x f p) (sym s) u
 
 pub few_complete : (l : FieldList) → length (complete l) ≤ 39
-few_complete l = omega (arith, length_first_fields l.bytes l.ends l.commas, l.few)
+few_complete l = omega (arith, length_first_fields l.bytes.items l.ends.items (length l.ends.items), l.few)
 
 pub stands_taken : (f : Reader) (m : Mode) (fs : List (List ℕ)) (v : List ℕ) (n : ℕ) (p : List ℕ) → Stands f m fs v n → UnderWay m fs v n p → Taken f p
 stands_taken f m fs v n p s u =
@@ -69,7 +69,7 @@ module _ (e f : Reader) (b : ℕ) (open' : e.status ≡ Open) (a : Action) (acts
   takes_separated sep Ended k = absurd k
   takes_separated sep (Faulty x) k =
       too_long x k.0 k.1
-      (⊎_elim (λ h. of_bytes (ap counts sep) h) (λ h. of_fields sep (omega (arith, h, length_first_fields e.fields.bytes e.fields.ends e.fields.commas))) k.2)
+      (⊎_elim (λ h. of_bytes (ap counts sep) h) (λ h. of_fields sep (omega (arith, h, length_first_fields e.fields.bytes.items e.fields.ends.items (length e.fields.ends.items)))) k.2)
 
   pub takes_refused : a ≡ Refuse → (r : Event) → r ≡ Faulty BadText → f.status ≡ Failed BadText → Takes e b r f
   takes_refused bad r is s =

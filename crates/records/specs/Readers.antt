@@ -1,5 +1,6 @@
 -- What a reader holds, and what it makes of a byte, a part of a text and the text's end.
 use Rattle.std.specs.Prelude.{◌≡◌, ℕ, ◌+◌, ◌<◌, ◌≤◌, ◌⊎◌, List, [], ◌∷◌, ◌++◌, length, drop, Some, None, Option, ◌≢◌}
+use Rattle.arrayvec.specs.ArrayVec.{array_vec_len}
 use Rattle.records.specs.FieldLists.{complete, current, fields_of}
 use Rattle.records.specs.Grammar.{Record, FirstFault}
 use Rattle.records.specs.Reading.{UnderWay}
@@ -32,7 +33,7 @@ Counted (Faulty x) e f mode fields field = (x ≡ TooLong) × (f.status ≡ Fail
 abbrev pub CountedField : Event → Reader → Reader → Type 0
 CountedField More e f = (e.status ≡ Open → Stands f Plain (complete e.fields ++ (current e.fields ∷ [])) [] (e.taken + 1)) × (e.taken < 1024)
 CountedField Ended e f = ⊥
-CountedField (Faulty x) e f = (x ≡ TooLong) × (f.status ≡ Failed TooLong) × ((1024 ≤ e.taken) ⊎ (39 ≤ e.fields.commas))
+CountedField (Faulty x) e f = (x ≡ TooLong) × (f.status ≡ Failed TooLong) × ((1024 ≤ e.taken) ⊎ (39 ≤ array_vec_len e.fields.ends))
 
 -- the bytes of its record that a reader has taken in: between two records there are none, and a failed reader is in no record
 abbrev pub TakenAs : Status → Reader → List ℕ → Type 0

@@ -3,6 +3,7 @@ mod read;
 mod take_in;
 
 ghost use Rattle.std.specs.Prelude.{◌≤◌};
+ghost use Rattle.arrayvec.specs.ArrayVec.{array_vec_len};
 
 use crate::action::Mode;
 use crate::fault::Fault;
@@ -45,6 +46,6 @@ pub struct Reader {
     mode: Mode,
     taken: usize,
     status: Status,
-    ghost room: { fields.len ≤ taken },
+    ghost room: { array_vec_len fields.bytes ≤ taken },
     ghost short: { taken ≤ 1024 },
 }
