@@ -1,5 +1,5 @@
 -- From what a reader makes of a part of a text to what the desk replies, and to the replies that a whole text gets.
-use Rattle.std.proofs.Common.{◌≡◌, ℕ, ◌+◌, List, [], ◌∷◌, ◌++◌, length, Some, None, Option, sym, refl, ap, ◌∙◌, subst, arith}
+use Rattle.std.proofs.Common.{◌≡◌, ℕ, ◌+◌, List, [], ◌∷◌, ◌++◌, length, Some, None, Option, Ok, Err, Result, sym, refl, ap, ◌∙◌, subst, arith}
 use Rattle.std.proofs.lemmas.List.{append_assoc, append-nil}
 use Rattle.std.specs.Option.{option_to_list}
 use Rattle.ends.specs.declared.table.AccountTable.{AccountTable}
@@ -10,7 +10,7 @@ use Rattle.records.specs.declared.fault.Fault.{Fault}
 use Rattle.records.specs.declared.reader.Reader.{Reader}
 use Rattle.records.specs.declared.reader.Progress.{Progress}
 use Rattle.records.specs.declared.reader.Event.{Event}
-use Rattle.records.specs.declared.reader.Event.TheVariants.{More as Wanting, Record as Ended, Fault as Faulty}
+use Rattle.records.specs.declared.reader.Event.TheVariants.{More as Wanting, Record as Ended}
 use Rattle.records.specs.declared.reader.Status.{Status}
 use Rattle.records.specs.declared.reader.Status.TheVariants.{Open, Complete, Failed}
 use Rattle.desk.specs.Replies.{unread, refusal_of}
@@ -22,17 +22,17 @@ use Rattle.desk.specs.declared.service.Turn.TheVariants.{More, Reply as Answer, 
 use Rattle.desk.specs.declared.reply.Reply.{Reply}
 
 -- two events that are not the same
-apart_more_ended : (v : Event) → v ≡ Wanting → v ≡ Ended → ⊥
+apart_more_ended : (v : Result Event Fault) → v ≡ Ok Wanting → v ≡ Ok Ended → ⊥
 apart_more_ended v p q = let z : ◌≡◌ {A = ℕ} 0 1 = cc in omega arith
 
-apart_more_faulty : (v : Event) (x : Fault) → v ≡ Wanting → v ≡ Faulty x → ⊥
+apart_more_faulty : (v : Result Event Fault) (x : Fault) → v ≡ Ok Wanting → v ≡ Err x → ⊥
 apart_more_faulty v x p q = let z : ◌≡◌ {A = ℕ} 0 1 = cc in omega arith
 
-apart_ended_faulty : (v : Event) (x : Fault) → v ≡ Ended → v ≡ Faulty x → ⊥
+apart_ended_faulty : (v : Result Event Fault) (x : Fault) → v ≡ Ok Ended → v ≡ Err x → ⊥
 apart_ended_faulty v x p q = let z : ◌≡◌ {A = ℕ} 0 1 = cc in omega arith
 
 -- an event names one fault
-one_fault : (v : Event) (x y : Fault) → v ≡ Faulty x → v ≡ Faulty y → x ≡ y
+one_fault : (v : Result Event Fault) (x y : Fault) → v ≡ Err x → v ≡ Err y → x ≡ y
 one_fault v x y p q = cc
 
 -- a reader at the end of a record has taken in nothing of the next
@@ -59,23 +59,23 @@ module _ (e f : Desk) (part : List ℕ) (r : Progress) (g : Reader) (same : f.re
       → ((x : Fault) → ReadsAs (Failed x) e.reader part r g → TurnsAs (Failed x) e part turn f) → Turns e part turn f
   turns turn on failed = each_status (λ s. ReadsAs s e.reader part r g) (λ s. TurnsAs s e part turn f) on on failed e.reader.status reads
 
-  more_on : r.event ≡ Wanting → f.table ≡ e.table → ReadOn e.reader part r g → TurnOn e part More f
+  more_on : r.event ≡ Ok Wanting → f.table ≡ e.table → ReadOn e.reader part r g → TurnOn e part More f
   more_on is t (onward v u o h) = serving.onward refl t (λ p k. subst (λ x. Taken x (p ++ part)) (sym same) (h p k))
   more_on is t (ended v z u o h) = absurd (apart_more_ended r.event is v)
   more_on is t (broken x v u o h) = absurd (apart_more_faulty r.event x is v)
 
-  pub turn_more : r.event ≡ Wanting → f.table ≡ e.table → Turns e part More f
+  pub turn_more : r.event ≡ Ok Wanting → f.table ≡ e.table → Turns e part More f
   turn_more is t = turns More (more_on is t) (λ x h. absurd (apart_more_faulty r.event x is h.0))
 
-  reply_on : (reply : Reply) → r.event ≡ Ended → Replied (fields_of g.fields) e.table reply f.table → ReadOn e.reader part r g → TurnOn e part (Answer r.used reply) f
+  reply_on : (reply : Reply) → r.event ≡ Ok Ended → Replied (fields_of g.fields) e.table reply f.table → ReadOn e.reader part r g → TurnOn e part (Answer r.used reply) f
   reply_on reply is t (onward v u o h) = absurd (apart_more_ended r.event v is)
   reply_on reply is t (ended v z u o h) = replied r.used reply (fields_of g.fields) refl z u (subst (λ x. Taken x []) (sym same) (complete_taken g o)) t h
   reply_on reply is t (broken x v u o h) = absurd (apart_ended_faulty r.event x is v)
 
-  pub turn_reply : (reply : Reply) → r.event ≡ Ended → Replied (fields_of g.fields) e.table reply f.table → Turns e part (Answer r.used reply) f
+  pub turn_reply : (reply : Reply) → r.event ≡ Ok Ended → Replied (fields_of g.fields) e.table reply f.table → Turns e part (Answer r.used reply) f
   turn_reply reply is t = turns (Answer r.used reply) (reply_on reply is t) (λ x h. absurd (apart_ended_faulty r.event x is h.0))
 
-  fault_on : (x : Fault) (reply : Reply) → reply ≡ unread (refusal_of x) → r.event ≡ Faulty x → f.table ≡ e.table → ReadOn e.reader part r g → TurnOn e part (End reply) f
+  fault_on : (x : Fault) (reply : Reply) → reply ≡ unread (refusal_of x) → r.event ≡ Err x → f.table ≡ e.table → ReadOn e.reader part r g → TurnOn e part (End reply) f
   fault_on x reply says is t (onward v u o h) = absurd (apart_more_faulty r.event x v is)
   fault_on x reply says is t (ended v z u o h) = absurd (apart_ended_faulty r.event x v is)
   fault_on x reply says is t (broken y v u o h) =
@@ -83,7 +83,7 @@ module _ (e f : Desk) (part : List ℕ) (r : Progress) (g : Reader) (same : f.re
       faulty x r.used (ap End says) (ap (λ d. d.status) same ∙ o ∙ ap Failed one) t u
       (λ p k rest. subst (FirstFault (p ++ (part ++ rest)) (length p + r.used)) one (h p k rest))
 
-  pub turn_fault : (x : Fault) (reply : Reply) → reply ≡ unread (refusal_of x) → r.event ≡ Faulty x → f.table ≡ e.table → Turns e part (End reply) f
+  pub turn_fault : (x : Fault) (reply : Reply) → reply ≡ unread (refusal_of x) → r.event ≡ Err x → f.table ≡ e.table → Turns e part (End reply) f
   turn_fault x reply says is t =
       turns (End reply) (fault_on x reply says is t)
       (λ y h. (ap End says ∙ ap (λ z. End (unread (refusal_of z))) (one_fault r.event x y is h.0), same_desk e f (same ∙ h.2) t))
@@ -100,35 +100,35 @@ turns_within e f part r h =
 
 -- the end of the text
 
-module _ (e f : Desk) (v : Event) (g : Reader) (same : f.reader ≡ g) (finishes : Finishes e.reader v g) where
+module _ (e f : Desk) (v : Result Event Fault) (g : Reader) (same : f.reader ≡ g) (finishes : Finishes e.reader v g) where
   ends : (r : Option Reply) → (FinishOn e.reader v g → EndOn e r f)
       → ((x : Fault) → FinishesAs (Failed x) e.reader v g → EndsAs (Failed x) e r f) → Ends e r f
   ends r on failed = each_status (λ s. FinishesAs s e.reader v g) (λ s. EndsAs s e r f) on on failed e.reader.status finishes
 
-  none_on : v ≡ Wanting → f.table ≡ e.table → FinishOn e.reader v g → EndOn e None f
+  none_on : v ≡ Ok Wanting → f.table ≡ e.table → FinishOn e.reader v g → EndOn e None f
   none_on is t (clear w o h) = between refl t (λ p k. (h p k).0)
   none_on is t (finished w o h) = absurd (apart_more_ended v is w)
   none_on is t (too_soon x w o h) = absurd (apart_more_faulty v x is w)
 
-  pub end_none : v ≡ Wanting → f.table ≡ e.table → Ends e None f
+  pub end_none : v ≡ Ok Wanting → f.table ≡ e.table → Ends e None f
   end_none is t = ends None (none_on is t) (λ x h. absurd (apart_more_faulty v x is h.0))
 
-  last_on : (reply : Reply) → v ≡ Ended → Replied (fields_of g.fields) e.table reply f.table → FinishOn e.reader v g → EndOn e (Some reply) f
+  last_on : (reply : Reply) → v ≡ Ok Ended → Replied (fields_of g.fields) e.table reply f.table → FinishOn e.reader v g → EndOn e (Some reply) f
   last_on reply is t (clear w o h) = absurd (apart_more_ended v w is)
   last_on reply is t (finished w o h) = last reply (fields_of g.fields) refl t h
   last_on reply is t (too_soon x w o h) = absurd (apart_ended_faulty v x is w)
 
-  pub end_reply : (reply : Reply) → v ≡ Ended → Replied (fields_of g.fields) e.table reply f.table → Ends e (Some reply) f
+  pub end_reply : (reply : Reply) → v ≡ Ok Ended → Replied (fields_of g.fields) e.table reply f.table → Ends e (Some reply) f
   end_reply reply is t = ends (Some reply) (last_on reply is t) (λ x h. absurd (apart_ended_faulty v x is h.0))
 
-  cut_on : (x : Fault) (reply : Reply) → reply ≡ unread (refusal_of x) → v ≡ Faulty x → f.table ≡ e.table → FinishOn e.reader v g → EndOn e (Some reply) f
+  cut_on : (x : Fault) (reply : Reply) → reply ≡ unread (refusal_of x) → v ≡ Err x → f.table ≡ e.table → FinishOn e.reader v g → EndOn e (Some reply) f
   cut_on x reply says is t (clear w o h) = absurd (apart_more_faulty v x w is)
   cut_on x reply says is t (finished w o h) = absurd (apart_ended_faulty v x w is)
   cut_on x reply says is t (too_soon y w o h) =
       let one : y ≡ x = one_fault v y x w is in
       cut_off x (ap Some says) (ap (λ d. d.status) same ∙ o ∙ ap Failed one) t (λ p k. subst (FirstFault p (length p)) one (h p k))
 
-  pub end_fault : (x : Fault) (reply : Reply) → reply ≡ unread (refusal_of x) → v ≡ Faulty x → f.table ≡ e.table → Ends e (Some reply) f
+  pub end_fault : (x : Fault) (reply : Reply) → reply ≡ unread (refusal_of x) → v ≡ Err x → f.table ≡ e.table → Ends e (Some reply) f
   end_fault x reply says is t =
       ends (Some reply) (cut_on x reply says is t)
       (λ y h. (ap Some says ∙ ap (λ z. Some (unread (refusal_of z))) (one_fault v x y is h.0), same_desk e f (same ∙ h.1) t))

@@ -8,7 +8,7 @@ ghost use Rattle.desk.specs.Serving.{Concludes, Continues, Ends, Replied, Turns,
 use crate::call::Call;
 use crate::reply::Reply;
 use ends::AccountTable;
-use records::{Event, Reader};
+use records::{Event, Progress, Reader};
 
 /// What a part of the text came to.
 #[derive(Clone, Copy, PartialEq, Eq, Debug)]
@@ -45,14 +45,14 @@ impl Desk {
         ensures law { Continues self.old part.now result self.new }
         ensures bounds { Within (length part.now) result }
     {
-        let progress = self.reader.read(part);
-        match progress.event {
-            Event::More => Turn::More,
-            Event::Record => Turn::Reply {
-                used: progress.used,
+        let Progress { used, event } = self.reader.read(part);
+        match event {
+            Ok(Event::More) => Turn::More,
+            Ok(Event::Record) => Turn::Reply {
+                used,
                 reply: self.reply(),
             },
-            Event::Fault(fault) => Turn::End(Reply::from(fault)),
+            Err(fault) => Turn::End(Reply::from(fault)),
         }
     }
 
@@ -62,9 +62,9 @@ impl Desk {
         ensures law { Concludes self.old result self.new }
     {
         match self.reader.finish() {
-            Event::More => None,
-            Event::Record => Some(self.reply()),
-            Event::Fault(fault) => Some(Reply::from(fault)),
+            Ok(Event::More) => None,
+            Ok(Event::Record) => Some(self.reply()),
+            Err(fault) => Some(Reply::from(fault)),
         }
     }
 

@@ -1,16 +1,16 @@
 -- What a list of fields holds.
-use Rattle.std.specs.Prelude.{ℕ, Bool, true, false, List, [], ◌∷◌, ◌++◌}
-use Rattle.std.specs.List.{between}
+use Rattle.std.specs.Prelude.{ℕ, Bool, true, false, List, [], ◌∷◌, ◌++◌, drop}
+use Rattle.arrayvec.specs.ArrayVec.{array_vec_len}
 use Rattle.records.specs.Laid.{start_of, first_fields}
 use Rattle.records.specs.declared.field_list.FieldList.{FieldList}
 
 -- the fields that are complete: each but the last
 abbrev pub complete : FieldList → List (List ℕ)
-complete l = first_fields l.bytes l.ends l.commas
+complete l = first_fields l.bytes.items l.ends.items (array_vec_len l.ends)
 
 -- the last field
 abbrev pub current : FieldList → List ℕ
-current l = between (start_of l.ends l.commas) l.len l.bytes
+current l = drop (start_of l.ends.items (array_vec_len l.ends)) l.bytes.items
 
 -- all the fields
 abbrev pub fields_of : FieldList → List (List ℕ)

@@ -1,5 +1,5 @@
 -- How the fields of a record lie in memory: one after the other, each but the last with the place where it ends.
-use Rattle.std.specs.Prelude.{ℕ, zero, suc, ◌<◌, ◌≤◌, List, [], ◌∷◌, ◌++◌, slice_index}
+use Rattle.std.specs.Prelude.{ℕ, zero, suc, ◌<◌, ◌≤◌, List, [], ◌∷◌, ◌++◌, length, slice_index}
 use Rattle.std.specs.List.{between}
 
 -- where a field starts: where the one before it ends
@@ -8,12 +8,12 @@ start_of ends zero = 0
 start_of ends (suc k) = slice_index ends k
 
 -- no field ends before it starts
-abbrev pub Ordered : List ℕ → ℕ → Type 0
-Ordered ends count = (k : ℕ) → k < count → start_of ends k ≤ slice_index ends k
+abbrev pub Ordered : List ℕ → Type 0
+Ordered ends = (k : ℕ) → k < length ends → start_of ends k ≤ slice_index ends k
 
 -- every field starts within what is filled
-abbrev pub Inside : List ℕ → ℕ → ℕ → Type 0
-Inside ends count len = (k : ℕ) → k ≤ count → start_of ends k ≤ len
+abbrev pub Inside : List ℕ → ℕ → Type 0
+Inside ends len = (k : ℕ) → k ≤ length ends → start_of ends k ≤ len
 
 -- the first fields, as many as are asked for
 abbrev pub first_fields : List ℕ → List ℕ → ℕ → List (List ℕ)

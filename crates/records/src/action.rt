@@ -5,7 +5,7 @@ ghost use Rattle.records.specs.Actions.{action_of};
 use crate::bytes::{is_plain, is_text};
 
 /// Where the reader stands in a field.
-#[derive(Clone, Copy)]
+#[derive(Clone, Copy, PartialEq, Eq, Debug)]
 pub enum Mode {
     /// At the start of a field, or in one that has no quotes.
     Plain,
@@ -18,7 +18,7 @@ pub enum Mode {
 }
 
 /// What a byte does.
-#[derive(Clone, Copy)]
+#[derive(Clone, Copy, PartialEq, Eq, Debug)]
 pub enum Action {
     /// It belongs to the field's value, and the reader then stands so.
     Keep(Mode),

@@ -2,19 +2,19 @@
 mod methods;
 
 ghost use Rattle.std.specs.Prelude.{◌≤◌};
+ghost use Rattle.arrayvec.specs.ArrayVec.{array_vec_len};
 ghost use Rattle.records.specs.Laid.{Ordered, Inside};
 
 use crate::limits::{MAX_BYTES, MAX_COMMAS};
+use arrayvec::ArrayVec;
 
 /// The fields of one record: their bytes one after the other, and where each field but the last ends.
 #[derive(Drop)]
 pub struct FieldList {
-    bytes: [u8; MAX_BYTES],
-    ends: [u16; MAX_COMMAS],
-    commas: usize,
-    len: usize,
-    ghost few: { commas ≤ 39 },
-    ghost short: { len ≤ 1024 },
-    ghost ordered: { Ordered ends commas },
-    ghost inside: { Inside ends commas len },
+    bytes: ArrayVec<u8, MAX_BYTES>,
+    ends: ArrayVec<u16, MAX_COMMAS>,
+    ghost few: { array_vec_len ends ≤ 39 },
+    ghost short: { array_vec_len bytes ≤ 1024 },
+    ghost ordered: { Ordered ends.items },
+    ghost inside: { Inside ends.items (array_vec_len bytes) },
 }

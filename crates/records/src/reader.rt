@@ -3,13 +3,14 @@ mod read;
 mod take_in;
 
 ghost use Rattle.std.specs.Prelude.{◌≤◌};
+ghost use Rattle.arrayvec.specs.ArrayVec.{array_vec_len};
 
 use crate::action::Mode;
 use crate::fault::Fault;
 use crate::field_list::FieldList;
 
 /// What a reader is about.
-#[derive(Clone, Copy)]
+#[derive(Clone, Copy, PartialEq, Eq, Debug)]
 pub enum Status {
     /// In a record, or before its first byte.
     Open,
@@ -19,15 +20,13 @@ pub enum Status {
     Failed(Fault),
 }
 
-/// What reading came to.
-#[derive(Clone, Copy)]
+/// What reading came to, where the text is not faulty.
+#[derive(Clone, Copy, PartialEq, Eq, Debug)]
 pub enum Event {
     /// No record has ended yet: more text is wanted.
     More,
     /// A record has ended: the reader holds its fields.
     Record,
-    /// The text is faulty here, and the reading has ended.
-    Fault(Fault),
 }
 
 /// How far a part of the text was read, and what that came to.
@@ -35,7 +34,8 @@ pub enum Event {
 pub struct Progress {
     /// How many bytes of the part were taken in; before a fault, those before it.
     pub used: usize,
-    pub event: Event,
+    /// What ended there, or the fault that ended the reading.
+    pub event: Result<Event, Fault>,
 }
 
 /// Reads the records of a text one after the other.
@@ -45,6 +45,6 @@ pub struct Reader {
     mode: Mode,
     taken: usize,
     status: Status,
-    ghost room: { fields.len ≤ taken },
+    ghost room: { array_vec_len fields.bytes ≤ taken },
     ghost short: { taken ≤ 1024 },
 }

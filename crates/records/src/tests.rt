@@ -3,23 +3,21 @@ use crate::fault::Fault;
 use crate::reader::{Event, Reader};
 
 // What an event comes to: how many fields the record that ended has, 0 if none ended, or the fault.
-fn outcome(reader: &Reader, event: Event) -> Result<usize, Fault> {
-    match event {
+fn outcome(reader: &Reader, event: Result<Event, Fault>) -> Result<usize, Fault> {
+    match event? {
         Event::More => Ok(0),
         Event::Record => Ok(reader.fields().count()),
-        Event::Fault(fault) => Err(fault),
     }
 }
 
 // Reads the first record of a text that is given in two parts.
-fn read_first(reader: &mut Reader, part: &[u8], next: &[u8]) -> Event {
-    let mut event = reader.read(part).event;
-    if let Event::More = event {
-        event = reader.read(next).event;
-    }
-    match event {
-        Event::More => reader.finish(),
-        _ => event,
+fn read_first(reader: &mut Reader, part: &[u8], next: &[u8]) -> Result<Event, Fault> {
+    match reader.read(part).event? {
+        Event::More => match reader.read(next).event? {
+            Event::More => reader.finish(),
+            Event::Record => Ok(Event::Record),
+        },
+        Event::Record => Ok(Event::Record),
     }
 }
 
@@ -32,10 +30,7 @@ fn first(text: &[u8]) -> Result<usize, Fault> {
 
 // Whether a reader holds a field at a place.
 fn holds(reader: &Reader, place: usize, bytes: &[u8]) -> bool {
-    match reader.fields().field(place) {
-        Some(field) => field == bytes,
-        None => false,
-    }
+    reader.fields().field(place) == Some(bytes)
 }
 
 #[test]

@@ -2,73 +2,70 @@
 ghost use Rattle.std.specs.Prelude.{◌≡◌, ◌+◌, ◌<◌, ◌≤◌, [], ◌∷◌, ◌++◌, length, Some, nat_le};
 ghost use Rattle.std.specs.List.{slice_get, between};
 ghost use Rattle.std.specs.Option.{option_map};
+ghost use Rattle.arrayvec.specs.ArrayVec.{array_vec_len};
 ghost use Rattle.records.specs.Laid.{start_of};
 ghost use Rattle.records.specs.FieldLists.{complete, current, fields_of, is_empty};
 
 use crate::field_list::FieldList;
-use crate::limits::{MAX_BYTES, MAX_COMMAS};
+use arrayvec::ArrayVec;
 
 impl FieldList {
     /// One empty field.
     pub(crate) fn new() -> FieldList
         ensures fields { (complete result ≡ []) × (current result ≡ []) }
-        ensures room { (result.len ≡ 0) × (result.commas ≡ 0) }
+        ensures room { (result.bytes.items ≡ []) × (result.ends.items ≡ []) }
     {
         FieldList {
-            bytes: [0; MAX_BYTES],
-            ends: [0; MAX_COMMAS],
-            commas: 0,
-            len: 0,
+            bytes: ArrayVec::new(),
+            ends: ArrayVec::new(),
         }
     }
 
     /// Back to one empty field.
     pub(crate) fn clear(&mut self)
         ensures fields { (complete self.new ≡ []) × (current self.new ≡ []) }
-        ensures room { (self.new.len ≡ 0) × (self.new.commas ≡ 0) }
+        ensures room { (self.new.bytes.items ≡ []) × (self.new.ends.items ≡ []) }
     {
-        self.commas = 0;
-        self.len = 0;
+        self.ends.clear();
+        self.bytes.clear();
     }
 
     /// One byte more in the last field.
     pub(crate) fn add(&mut self, byte: u8)
-        requires { self.old.len < 1024 }
+        requires { array_vec_len self.old.bytes < 1024 }
         ensures before { complete self.new ≡ complete self.old }
         ensures last { current self.new ≡ current self.old ++ (byte ∷ []) }
-        ensures room { (self.new.len ≡ self.old.len + 1) × (self.new.commas ≡ self.old.commas) }
+        ensures room { (array_vec_len self.new.bytes ≡ array_vec_len self.old.bytes + 1) × (self.new.ends ≡ self.old.ends) }
     {
-        self.bytes[self.len] = byte;
-        self.len += 1;
+        self.bytes.push(byte);
     }
 
     /// Completes the last field, and starts an empty one after it.
     pub(crate) fn separate(&mut self)
-        requires { self.old.commas < 39 }
+        requires { array_vec_len self.old.ends < 39 }
         ensures before { complete self.new ≡ complete self.old ++ (current self.old ∷ []) }
         ensures last { current self.new ≡ [] }
-        ensures room { (self.new.len ≡ self.old.len) × (self.new.commas ≡ self.old.commas + 1) }
+        ensures room { (self.new.bytes ≡ self.old.bytes) × (array_vec_len self.new.ends ≡ array_vec_len self.old.ends + 1) }
     {
-        self.ends[self.commas] = self.len as u16;
-        self.commas += 1;
+        self.ends.push(self.bytes.len() as u16);
     }
 
     /// Where the field at `k` starts.
     fn start(&self, k: usize) -> usize
-        requires { k ≤ self.now.commas }
-        ensures { result ≡ start_of self.now.ends k }
+        requires { k ≤ array_vec_len self.now.ends }
+        ensures { result ≡ start_of self.now.ends.items k }
     {
         if k == 0 { 0 } else { self.ends[k - 1] as usize }
     }
 
     /// Where the field at `k` ends.
     fn end(&self, k: usize) -> usize
-        requires { k ≤ self.now.commas }
-        ensures within { (start_of self.now.ends k ≤ result) × (result ≤ 1024) }
-        ensures field { slice_get (fields_of self.now) k ≡ Some (between (start_of self.now.ends k) result self.now.bytes) }
+        requires { k ≤ array_vec_len self.now.ends }
+        ensures within { (start_of self.now.ends.items k ≤ result) × (result ≤ array_vec_len self.now.bytes) }
+        ensures field { slice_get (fields_of self.now) k ≡ Some (between (start_of self.now.ends.items k) result self.now.bytes.items) }
     {
-        if k == self.commas {
-            self.len
+        if k == self.ends.len() {
+            self.bytes.len()
         } else {
             self.ends[k] as usize
         }
@@ -78,14 +75,14 @@ impl FieldList {
     pub(crate) fn is_fresh(&self) -> bool
         ensures { result ≡ is_empty (current self.now) }
     {
-        self.len == self.start(self.commas)
+        self.bytes.len() == self.start(self.ends.len())
     }
 
     /// Whether there is no room for a field more.
     pub(crate) fn is_full(&self) -> bool
-        ensures { result ≡ nat_le 39 self.now.commas }
+        ensures { result ≡ nat_le 39 (array_vec_len self.now.ends) }
     {
-        self.commas >= MAX_COMMAS
+        self.ends.is_full()
     }
 
     /// The place of the last field, counted from 0.
@@ -93,7 +90,7 @@ impl FieldList {
         ensures few { result ≤ 39 }
         ensures place { length (fields_of self.now) ≡ result + 1 }
     {
-        self.commas
+        self.ends.len()
     }
 
     /// How many fields there are.
@@ -107,7 +104,7 @@ impl FieldList {
     pub fn field(&self, place: usize) -> Option<&[u8]>
         ensures { option_map (λ x. x.now) result ≡ slice_get (fields_of self.now) place }
     {
-        if place > self.commas {
+        if place > self.ends.len() {
             return None;
         }
         let from = self.start(place);

@@ -23,19 +23,19 @@ impl Reader {
     }
 
     /// Makes ready for the next byte, or answers the fault that ended the reading.
-    fn ready(&mut self) -> Option<Fault>
+    fn ready(&mut self) -> Result<(), Fault>
         ensures { Readied self.old result self.new }
     {
         match self.status {
-            Status::Open => None,
+            Status::Open => Ok(()),
             Status::Complete => {
                 self.fields.clear();
                 self.mode = Mode::Plain;
                 self.taken = 0;
                 self.status = Status::Open;
-                None
+                Ok(())
             }
-            Status::Failed(fault) => Some(fault),
+            Status::Failed(fault) => Err(fault),
         }
     }
 
@@ -43,13 +43,13 @@ impl Reader {
     pub fn read(&mut self, part: &[u8]) -> Progress
         ensures { Reads self.old part.now result self.new }
     {
-        if let Some(fault) = self.ready() {
-            return Progress {
+        match self.ready() {
+            Ok(()) => self.read_on(part),
+            Err(fault) => Progress {
                 used: 0,
-                event: Event::Fault(fault),
-            };
+                event: Err(fault),
+            },
         }
-        self.read_on(part)
     }
 
     /// Takes in a part of the text from inside a record.
@@ -59,51 +59,49 @@ impl Reader {
     {
         for (i, byte) in part.iter().enumerate() {
             match self.take_in(*byte) {
-                Event::More => {}
-                Event::Record => {
+                Ok(Event::More) => {}
+                Ok(Event::Record) => {
                     return Progress {
                         used: i + 1,
-                        event: Event::Record,
+                        event: Ok(Event::Record),
                     };
                 }
-                Event::Fault(fault) => {
+                Err(fault) => {
                     return Progress {
                         used: i,
-                        event: Event::Fault(fault),
+                        event: Err(fault),
                     };
                 }
             }
         }
         Progress {
             used: part.len(),
-            event: Event::More,
+            event: Ok(Event::More),
         }
     }
 
     /// Takes in the end of the text, which may end a record.
-    pub fn finish(&mut self) -> Event
+    pub fn finish(&mut self) -> Result<Event, Fault>
         ensures { Finishes self.old result self.new }
     {
-        if let Some(fault) = self.ready() {
-            return Event::Fault(fault);
-        }
+        self.ready()?;
         self.finish_open()
     }
 
     /// Takes in the end of the text inside a record, or before one.
-    fn finish_open(&mut self) -> Event
+    fn finish_open(&mut self) -> Result<Event, Fault>
         requires { self.old.status ≡ Status.Open }
         ensures { FinishOn self.old result self.new }
     {
         match self.mode {
             Mode::Plain | Mode::Closing => {
                 if self.taken == 0 {
-                    return Event::More;
+                    return Ok(Event::More);
                 }
                 self.status = Status::Complete;
-                Event::Record
+                Ok(Event::Record)
             }
-            Mode::Quoted | Mode::Returned => self.fail(Fault::BadText),
+            Mode::Quoted | Mode::Returned => Err(self.fail(Fault::BadText)),
         }
     }
 

@@ -1,12 +1,9 @@
-use Rattle.std.proofs.Common.{arith, rules}
-use Rattle.records.proofs.Laid.{first_fields_add, between_add}
+use Rattle.std.proofs.Common.{length, ap, ◌∙◌}
+use Rattle.records.specs.Laid.{first_fields}
+use Rattle.records.proofs.Laid.{first_fields_add}
 use Rattle.records.proofs.field_list.FieldList.add.Goals as goal
 
-pub returns : goal.returns
-returns c =
+pub returns-clause-before : goal.returns-clause-before
+returns-clause-before c =
     let l = c.args.self.now in
-    record {
-      before = first_fields_add l.bytes l.ends l.len c.args.byte l.commas l.inside;
-      last = between_add l.bytes _ l.len c.args.byte (l.inside l.commas (omega arith)) (omega arith);
-      room = search rules;
-    }
+    ap (λ x. first_fields x l.ends.items (length l.ends.items)) c.push.ensures.items ∙ first_fields_add l.bytes.items l.ends.items c.args.byte (length l.ends.items) l.inside

@@ -1,9 +1,6 @@
 use Rattle.std.proofs.Common.{refl, arith}
-use Rattle.records.proofs.Readers.{finish_clear, finish_record, finish_cut}
+use Rattle.records.proofs.Readers.{finish_record, finish_cut}
 use Rattle.records.proofs.reader.Reader.finish_open.Goals as goal
-
-pub returns-then-self-eq0 : goal.returns-then-self-eq0
-returns-then-self-eq0 c = finish_clear c.args.self.now c.requires c.in-Plain.is c.if-self-eq0.true
 
 pub returns-else-self-eq0 : goal.returns-else-self-eq0
 returns-else-self-eq0 c = finish_record c.args.self.now _ c.requires c.in-Plain.is (omega (arith, c.if-self-eq0.false)) refl refl

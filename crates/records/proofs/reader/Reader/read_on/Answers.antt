@@ -1,20 +1,21 @@
-use Rattle.std.proofs.Common.{◌++◌, refl, subst, arith}
+use Rattle.std.proofs.Common.{get_or, Ok, ◌++◌, refl, subst, arith}
 use Rattle.std.proofs.lemmas.List.{take_all}
-use Rattle.records.specs.Readers.{onward, Taken}
+use Rattle.records.specs.Readers.{onward, Taken, Takes}
 use Rattle.records.proofs.Readers.{along_more, along_ended, along_broken}
 use Rattle.records.proofs.reader.Reader.read_on.Goals as goal
 
-pub returns-in-Record : goal.returns-in-Record
-returns-in-Record c =
-    along_ended c.args.self.now c.args.part.now c.loop-i.self c.take_in.new.self c.loop-i.i (omega arith) c.loop-i.invariant.1 c.in-Record.ensures
+pub returns-in-Ok-Record : goal.returns-in-Ok-Record
+returns-in-Ok-Record c =
+    along_ended c.args.self.now c.args.part.now c.loop-i.self c.take_in.new.self c.loop-i.i (omega arith) c.loop-i.invariant.1
+    (subst (λ v. Takes c.loop-i.self (get_or c.args.part.now c.loop-i.i 0) (Ok v) c.take_in.new.self) c.in-Ok-Record.field-0-is c.in-Ok-Record.ensures)
 
-pub returns-in-Fault : goal.returns-in-Fault
-returns-in-Fault c =
-    along_broken c.args.self.now c.args.part.now c.loop-i.self c.take_in.new.self c.loop-i.i c.in-Fault.fault (omega arith) c.loop-i.invariant.1 c.in-Fault.ensures
+pub returns-in-Err : goal.returns-in-Err
+returns-in-Err c =
+    along_broken c.args.self.now c.args.part.now c.loop-i.self c.take_in.new.self c.loop-i.i c.in-Err.fault (omega arith) c.loop-i.invariant.1 c.in-Err.ensures
 
 pub loop-i-preserved : goal.loop-i-preserved
 loop-i-preserved c =
-    let takes = c.in-More.ensures in
+    let takes = subst (λ v. Takes c.loop-i.self (get_or c.args.part.now c.loop-i.i 0) (Ok v) c.take_in.new.self) c.in-Ok-More.field-0-is c.in-Ok-More.ensures in
     (takes.0, along_more c.args.self.now c.args.part.now c.loop-i.self c.take_in.new.self c.loop-i.i (omega arith) c.loop-i.invariant.1 takes)
 
 pub returns : goal.returns
