@@ -1,12 +1,13 @@
 -- Every record that the writer may write reads back equal, whatever follows it.
-use Rattle.std.proofs.Common.{◌≡◌, ℕ, ◌≤◌, true, List, [], ◌∷◌, ◌++◌, length, take, drop, None, sym, ap, ◌∙◌, subst, arith}
+use Rattle.std.proofs.Common.{◌≡◌, ℕ, ◌<◌, ◌≤◌, true, List, [], ◌∷◌, ◌++◌, length, take, drop, Some, Ok, Err, Result, sym, ap, ◌∙◌, subst, arith}
 use Rattle.std.proofs.lemmas.List.{append_assoc, append-nil, take_at}
 use Rattle.std.proofs.lemmas.Bool.{cond_both, and_parts}
 use Rattle.records.specs.Grammar.{plain_byte, text_byte, every, in_quotes, Field, plain, quoted, Fields, one, more, Record, ended}
-use Rattle.records.specs.Buffers.{Put}
-use Rattle.records.specs.Writing.{spelled, line, whole, all_text, unwritable, Written}
-use Rattle.records.proofs.Puts.{put_at_start}
-use Rattle.records.proofs.Reasons.{lawful_from_none}
+use Rattle.records.specs.Buffers.{Copies}
+use Rattle.records.specs.Writing.{spelled, line, whole, all_text, Wrote}
+use Rattle.records.specs.declared.writer.Unwritable.{Unwritable}
+use Rattle.records.proofs.Reasons.{no_room, writable}
+use Rattle.records.proofs.Lengths.{length_whole}
 
 pub spelled_is_field : (field : List ℕ) → every text_byte field ≡ true → Field field (spelled field)
 spelled_is_field field text = cond_both (every plain_byte field) field (in_quotes field) (Field field) (λ bare. plain bare) (λ _. quoted text)
@@ -22,18 +23,24 @@ pub whole_is_record : (field : List ℕ) (fields : List (List ℕ)) → all_text
 whole_is_record field fields text few short rest =
     ended (line (field ∷ fields)) (line_is_fields field fields text) (record { few = few; short = short }) (append_assoc (line (field ∷ fields)) (13 ∷ (10 ∷ [])) rest)
 
--- a record that nothing speaks against and that was put at the start of the buffer is written
-pub written_from_put : (field : List ℕ) (fields : List (List ℕ)) {before : List ℕ} {n : ℕ} {after : List ℕ} → unwritable (field ∷ fields) (length before) ≡ None → Put before 0 (whole (field ∷ fields)) n after → Written (field ∷ fields) before n after
-written_from_put field fields {before} {n} {after} none put =
+-- a record against which only the room may speak is written if its line was copied, and refused if there was no room for it
+pub wrote_from_copy : (fields : List (List ℕ)) (before : List ℕ) (r : Result ℕ Unwritable) (after : List ℕ) → 0 < length fields → all_text fields ≡ true → length fields ≤ 40 → length (line fields) ≤ 1024 → Copies (line fields) before r after → Wrote fields before r after
+wrote_from_copy [] before r after some text few short copied = absurd (omega arith)
+wrote_from_copy (field ∷ fields) before (Ok n) after some text few short copied =
     let all = whole (field ∷ fields) in
-    let lawful = lawful_from_none (field ∷ fields) (length before) none in
-    let next = put.next_place in
+    let long = length_whole (field ∷ fields) in
     let count : n ≡ length all = omega arith in
-    let buffer : after ≡ all ++ drop n before = put.buffer ∙ put_at_start all before lawful.fits ∙ ap (λ k. all ++ drop k before) (sym count) in
+    let buffer : after ≡ all ++ drop n before = copied.2 ∙ sym (append_assoc (line (field ∷ fields)) (13 ∷ (10 ∷ [])) (drop n before)) in
     let front : take n after ≡ all = ap (take n) buffer ∙ take_at all (drop n before) n (sym count) in
     record {
-      lawful = none;
+      lawful = writable (field ∷ fields) (length before) some text few short (omega arith);
       count = count;
       buffer = buffer;
-      reads_back = λ rest. subst (λ l. Record (l ++ rest) (field ∷ fields) rest) (sym front) (whole_is_record field fields lawful.text lawful.few lawful.short rest);
+      reads_back = λ rest. subst (λ l. Record (l ++ rest) (field ∷ fields) rest) (sym front) (whole_is_record field fields text few short rest);
+    }
+wrote_from_copy (field ∷ fields) before (Err why) after some text few short refused =
+    let long = length_whole (field ∷ fields) in
+    record {
+      reason = no_room (field ∷ fields) (length before) some text few short (omega arith) ∙ ap Some (sym refused.0);
+      kept = refused.2;
     }
