@@ -54,7 +54,7 @@ impl Decimal {
     pub fn as_bytes(&self) -> &[u8]
         ensures { result.now ≡ self.now.text.bytes }
     {
-        self.text.as_str().as_bytes()
+        self.text.as_bytes()
     }
 }
 

@@ -124,8 +124,7 @@ impl Line {
 
     // Copies the line with its CRLF to the start of a buffer, and gives how many bytes that took.
     fn copy_to(&self, out: &mut [u8]) -> Result<usize, Unwritable>
-        ensures short { length self.now.bytes.items ≤ 1024 }
-        ensures copied { Copies self.now.bytes.items out.old result out.new }
+        ensures { Copies self.now.bytes.items out.old result out.new }
     {
         let len = self.bytes.len();
         let end = len + 2;
