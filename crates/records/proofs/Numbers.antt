@@ -29,14 +29,14 @@ numerals = numerals_by_fold _ tells_all_digits value_after folds_value_after
 spells_digits_by : AppendsLastDigit digits_by
 spells_digits_by = search rules
 
-pub digits_of_is_decimal : (n : ℕ) → n < 2 ^ 64 → digits_of n ≡ decimal n
+digits_of_is_decimal : (n : ℕ) → n < 2 ^ 64 → digits_of n ≡ decimal n
 unfolding digits_of
 digits_of_is_decimal n small = decimal_from_appends digits_by spells_digits_by (suc n) n small (omega (arith, length-decimal-le_succ n small))
 
 -- the numeral of a number of 64 bits is what std prints of it
-pub decimal_of_is_signed_decimal : (z : ℤ) → mag z < 2 ^ 63 → signed_decimal z ≡ decimal_of z
-decimal_of_is_signed_decimal (pos n) small = sym (digits_of_is_decimal n (omega arith))
-decimal_of_is_signed_decimal (negsuc n) small = ap (λ ds. 45 ∷ ds) (sym (digits_of_is_decimal (suc n) (omega arith)))
+signed_decimal_is_decimal_of : (z : ℤ) → mag z < 2 ^ 63 → signed_decimal z ≡ decimal_of z
+signed_decimal_is_decimal_of (pos n) small = sym (digits_of_is_decimal n (omega arith))
+signed_decimal_is_decimal_of (negsuc n) small = ap (λ ds. 45 ∷ ds) (sym (digits_of_is_decimal (suc n) (omega arith)))
 
 numeral_of_decimal : (n : ℕ) → n < 2 ^ 64 → is_numeral (decimal n) ≡ true
 numeral_of_decimal n small = let some = decimal_nonempty n small in let all = digits_decimal numerals n small in grind (arith, nat_tests)
@@ -88,9 +88,9 @@ some_signed_decimal (pos n) small = decimal_nonempty n (omega arith)
 some_signed_decimal (negsuc n) small = omega arith
 
 -- what is printed of a number of 64 bits is its numeral
-pub writes_signed_decimal : (z : ℤ) → mag z < 2 ^ 63 → Writes z (signed_decimal z)
+writes_signed_decimal : (z : ℤ) → mag z < 2 ^ 63 → Writes z (signed_decimal z)
 writes_signed_decimal z small = record {
-  exact = decimal_of_is_signed_decimal z small;
+  exact = signed_decimal_is_decimal_of z small;
   reads = signed_in_decimal z small;
   number = number_in_signed_decimal z;
   some = some_signed_decimal z small;
