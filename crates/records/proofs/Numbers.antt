@@ -33,6 +33,10 @@ digits_of_is_decimal : (n : ℕ) → n < 2 ^ 64 → digits_of n ≡ decimal n
 unfolding digits_of
 digits_of_is_decimal n small = decimal_from_appends digits_by spells_digits_by (suc n) n small (omega (arith, length-decimal-le_succ n small))
 
+-- the digits of a number of 64 bits are digits and nothing else
+pub digits_are_digits : (n : ℕ) → n < 2 ^ 64 → all_digits (digits_of n) ≡ true
+digits_are_digits n small = rw (digits_of_is_decimal n small) (digits_decimal numerals n small)
+
 -- the numeral of a number of 64 bits is what std prints of it
 signed_decimal_is_decimal_of : (z : ℤ) → mag z < 2 ^ 63 → signed_decimal z ≡ decimal_of z
 signed_decimal_is_decimal_of (pos n) small = sym (digits_of_is_decimal n (omega arith))
