@@ -4,8 +4,8 @@ use Rattle.std.proofs.lemmas.List.{length-append, take_at}
 use Rattle.std.proofs.lemmas.Bool.{and_parts, and_from}
 use Rattle.std.proofs.lemmas.Bool.Decides.{nat_tests}
 use Rattle.records.specs.Grammar.{every, plain_byte, text_byte, Record}
-use Rattle.records.proofs.Lengths.{length_spelled_plain}
-use Rattle.records.proofs.Reasons.{length_whole, writable}
+use Rattle.records.proofs.Lengths.{length_spelled_plain, length_whole}
+use Rattle.records.proofs.Reasons.{writable}
 use Rattle.records.specs.Writing.{spelled, comma_spelled, line, whole, all_text, unwritable, Refused, Written, Wrote}
 use Rattle.records.specs.declared.writer.Unwritable.{Unwritable}
 use Rattle.records.specs.Numbers.{decimal_of, Writes}

@@ -1,12 +1,12 @@
 -- The line of a word and three numbers.
-use Rattle.std.specs.Prelude.{◌≡◌, ℕ, ◌≤◌, true, List, [], ◌∷◌, ◌++◌, length, drop}
+use Rattle.std.specs.Prelude.{◌≡◌, ℕ, ◌≤◌, true, List, [], ◌∷◌, ◌++◌, length}
 use Rattle.records.specs.Grammar.{Record, every, plain_byte}
 use Rattle.records.specs.Writing.{whole}
 use Rattle.records.specs.declared.numeral.Decimal.{Decimal}
 
 -- the bytes of a numeral
 abbrev pub numeral : Decimal → List ℕ
-numeral d = drop d.start d.bytes
+numeral d = d.text.bytes
 
 -- a field short enough for an answer, and in need of no quotes
 pub record Short (field : List ℕ) : Type 0 where

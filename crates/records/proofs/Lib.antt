@@ -6,9 +6,6 @@ pub mod Numbers
 pub mod Faults
 pub mod Readers
 pub mod Unique
-pub mod Passing
 pub mod Lengths
-pub mod Lines
-pub mod Puts
 pub mod Reasons
 pub mod ReadsBack

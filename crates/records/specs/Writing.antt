@@ -32,10 +32,6 @@ all_text (field ∷ fields) = every text_byte field && all_text fields
 abbrev pub too_long : List (List ℕ) → Bool
 too_long fields = nat_lt 40 (length fields) || nat_lt 1024 (length (line fields))
 
--- a number of bytes, where a record may have so many
-abbrev pub allowed : ℕ → Option ℕ
-allowed n = cond (nat_lt 1024 n) None (Some n)
-
 -- why a record of these fields cannot be written into so much room: the first reason, or none
 abbrev pub unwritable : List (List ℕ) → ℕ → Option Unwritable
 unwritable fields room =
