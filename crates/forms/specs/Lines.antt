@@ -1,5 +1,5 @@
 -- A list of lines: whether its weights and its accounts make a form.
-use Rattle.std.specs.Prelude.{◌≡◌, ℕ, ◌+◌, Bool, true, false, not, ◌&&◌, List, [], ◌∷◌, length, Some, None, sum_by, Option, ◌==◌, nat_le}
+use Rattle.std.specs.Prelude.{ℕ, Bool, true, not, ◌&&◌, List, [], ◌∷◌, length, None, sum_by, Option, ◌==◌, nat_le}
 use Rattle.std.specs.List.{list_all, list_any}
 use Rattle.measures.specs.Answers.{unless}
 use Rattle.measures.specs.Measures.{is_account}
@@ -45,13 +45,3 @@ accounts_lawful lines = list_all has_account_number lines && none_twice lines
 -- the first reason against a form of these lines
 abbrev pub against_form : List FormLine → Option Refusal
 against_form lines = unless (weights_lawful lines) BadWeights (unless (accounts_lawful lines) BadAccounts None)
-
--- what a line leaves of so much weight, if it has a weight and there is enough
-abbrev pub Takes : FormLine → ℕ → Option ℕ → Type 0
-Takes line left (Some rest) = (has_weight line ≡ true) × (line.weight + rest ≡ left)
-Takes line left None = (has_weight line && nat_le line.weight left) ≡ false
-
--- what the lines leave of the whole, if each has a weight and there is enough
-abbrev pub Leave : List FormLine → Option ℕ → Type 0
-Leave lines (Some left) = (list_all has_weight lines ≡ true) × (total_weight lines + left ≡ whole_weight)
-Leave lines None = (list_all has_weight lines && nat_le (total_weight lines) whole_weight) ≡ false

@@ -3,14 +3,14 @@ ghost use Rattle.std.specs.Prelude.{◌≡◌, ◌≤◌, true, ◌&&◌, length
 ghost use Rattle.std.specs.List.{list_all};
 ghost use Rattle.forms.specs.Limits.{most_lines};
 ghost use Rattle.forms.specs.Lines.{accounts_lawful, is_line_count, weights_lawful};
-ghost use Rattle.forms.specs.Rows.{is_blank, is_filled, lawful, lines_of, past_lines, row_of};
+ghost use Rattle.forms.specs.Rows.{is_blank, lawful, lines_of, row_of};
 
 use crate::line::FormLine;
 use crate::naming::are_accounts_lawful;
 use crate::weighing::{MOST_LINES, are_weights_lawful};
 
 /// A form as it lies on file: a plain row of lines; the places past the count are blank.
-// The places and their count lie side by side, since what is on file is plain, is copied, and has a fixed size.
+// An array and a count, and no `ArrayVec`, which is not `Copy`: what lies on file is a plain row of a fixed size, and is copied.
 #[derive(Clone, Copy)]
 pub struct FormRow {
     lines: [FormLine; MOST_LINES],

@@ -1,6 +1,8 @@
 // Whether the weights of some lines make a form.
-ghost use Rattle.std.specs.Prelude.{◌≡◌};
-ghost use Rattle.forms.specs.Lines.{Leave, is_line_count, weights_lawful};
+ghost use Rattle.std.specs.Prelude.{◌≡◌, ◌==◌};
+ghost use Rattle.std.specs.List.{list_all};
+ghost use Rattle.forms.specs.Limits.{whole_weight};
+ghost use Rattle.forms.specs.Lines.{has_weight, is_line_count, total_weight, weights_lawful};
 
 use crate::line::FormLine;
 
@@ -21,16 +23,22 @@ pub(crate) fn is_line_count(n: usize) -> bool
 pub(crate) fn are_weights_lawful(lines: &[FormLine]) -> bool
     ensures { result ≡ weights_lawful lines.now }
 {
-    is_line_count(lines.len()) && weight_left(lines) == Some(0)
+    is_line_count(lines.len()) && have_weights(lines) && make_up_whole(lines)
 }
 
-// What the lines leave of the whole, if each has a weight and there is enough.
-fn weight_left(lines: &[FormLine]) -> Option<u64>
-    ensures { Leave lines.now result }
+// Whether each line has a weight.
+fn have_weights(lines: &[FormLine]) -> bool
+    ensures { result ≡ list_all has_weight lines.now }
 {
-    let mut left = WHOLE_WEIGHT;
-    for line in lines {
-        left = line.taken_from(left)?;
-    }
-    Some(left)
+    lines.iter().all(|line| line.weight > 0)
+}
+
+// Whether the weights of the lines make up the whole.
+fn make_up_whole(lines: &[FormLine]) -> bool
+    ensures { result ≡ (total_weight lines.now == whole_weight) }
+{
+    let total = lines
+        .iter()
+        .try_fold(0, |total: u64, line| total.checked_add(line.weight));
+    total == Some(WHOLE_WEIGHT)
 }

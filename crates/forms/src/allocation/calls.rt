@@ -38,6 +38,7 @@ impl Form {
     }
 
     /// The lines of this form.
+    #[tactic(auto, using(crate::proofs::Lawful::count_within))]
     pub fn lines(&self) -> &[FormLine]
         ensures { result.now ≡ lines_of self.now.row }
     {
