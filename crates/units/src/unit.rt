@@ -13,7 +13,7 @@ use tariff::{Notice, Standing, Terms};
 pub struct Unit {
     pub(crate) terms: Terms,
     pub(crate) standing: Standing,
-    /// The form that waits to come into force. On file it is a plain row: a form carries its lawfulness, so no clause can write one out.
+    /// The form that waits to come into force. Whatever the book files is a plain row, which it keeps lawful.
     pub(crate) waiting: Option<Received<FormRow>>,
 }
 
