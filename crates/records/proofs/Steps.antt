@@ -1,11 +1,13 @@
 -- What a byte makes of a record under way: the record goes on, ends, or breaks at its first fault.
 use Rattle.std.proofs.Common.{◌≡◌, ℕ, ◌+◌, ◌≤◌, Bool, true, false, cond, eqb, ◌⊎◌, List, [], ◌∷◌, ◌++◌, length, sym, refl, ap, ◌∙◌, subst, inl, inr, arith}
 use Rattle.std.proofs.lemmas.List.{append_assoc, append-nil, length_push}
+use Rattle.std.proofs.lemmas.List.Folds.{list_all-append}
 use Rattle.std.proofs.lemmas.Bool.{and_from, cond-false}
 use Rattle.std.proofs.lemmas.Bool.Decides.{nat_tests}
+use Rattle.std.specs.List.{list_all}
 use Rattle.records.specs.Actions.{action_of}
 use Rattle.records.specs.FieldLists.{is_empty}
-use Rattle.records.specs.Grammar.{plain_byte, text_byte, every, doubled, Field, Record, ended}
+use Rattle.records.specs.Grammar.{plain_byte, text_byte, doubled, Field, Record, ended}
 use Rattle.records.specs.Reading.{next, Part, of_line_end, UnderWay}
 use Rattle.records.specs.declared.action.Mode.{Mode}
 use Rattle.records.specs.declared.action.Mode.TheVariants.{Plain, Quoted, Closing, Returned}
@@ -13,9 +15,8 @@ use Rattle.records.specs.declared.action.Action.{Action}
 use Rattle.records.specs.declared.action.Action.TheVariants.{Keep, OpenQuotes, CloseQuotes, Separate, Return, End}
 use Rattle.records.proofs.UnderWay.{last_field, written_part, level_over}
 
-every_push : (test : ℕ → Bool) (v : List ℕ) (b : ℕ) → every test v ≡ true → test b ≡ true → every test (v ++ (b ∷ [])) ≡ true
-every_push test [] b h t = and_from (test b) true t refl
-every_push test (x ∷ v) b h t = grind (arith, nat_tests, every_push test v b)
+list_all_push : (test : ℕ → Bool) (v : List ℕ) (b : ℕ) → list_all test v ≡ true → test b ≡ true → list_all test (v ++ (b ∷ [])) ≡ true
+list_all_push test v b h t = list_all-append test v (b ∷ []) ∙ and_from _ _ h (and_from _ _ t refl)
 
 doubled_append : (v w : List ℕ) → doubled (v ++ w) ≡ doubled v ++ doubled w
 doubled_append [] w = refl
@@ -98,19 +99,19 @@ onward mode mode' fs v v' n n' b p u part' c = record {
 part_keep : (mode mode' : Mode) (v part : List ℕ) (b : ℕ) → action_of mode (is_empty v) b ≡ Keep mode' → Part mode v part → Part mode' (v ++ (b ∷ [])) (part ++ (b ∷ []))
 part_keep Plain mode' v part b e (h, p) =
     let k = kept_plain (is_empty v) b mode' e in
-    subst (λ m. Part m (v ++ (b ∷ [])) (part ++ (b ∷ []))) (sym k.0) (every_push plain_byte v b h k.1, ap (λ x. x ++ (b ∷ [])) p)
+    subst (λ m. Part m (v ++ (b ∷ [])) (part ++ (b ∷ []))) (sym k.0) (list_all_push plain_byte v b h k.1, ap (λ x. x ++ (b ∷ [])) p)
 part_keep Quoted mode' v part b e (h, p) =
     let k = kept_quoted (is_empty v) b mode' e in
     let single : doubled (b ∷ []) ≡ b ∷ [] = cond-false (eqb b 34) (34 ∷ (34 ∷ [])) (b ∷ []) k.2 in
     subst (λ m. Part m (v ++ (b ∷ [])) (part ++ (b ∷ []))) (sym k.0) (
-      every_push text_byte v b h k.1,
+      list_all_push text_byte v b h k.1,
       ap (λ x. x ++ (b ∷ [])) p ∙ ap (λ x. 34 ∷ x) (ap (λ x. doubled v ++ x) (sym single) ∙ sym (doubled_append v (b ∷ []))),
     )
 part_keep Closing mode' v part b e (h, p) =
     let k = kept_closing (is_empty v) b mode' e in
     subst (λ m. Part m (v ++ (b ∷ [])) (part ++ (b ∷ []))) (sym k.0)
     (subst (λ x. Part Quoted (v ++ (x ∷ [])) (part ++ (x ∷ []))) (sym k.1) (
-      every_push text_byte v 34 h refl,
+      list_all_push text_byte v 34 h refl,
       ap (λ x. x ++ (34 ∷ [])) p ∙ ap (λ x. 34 ∷ x) (append_assoc (doubled v) (34 ∷ []) (34 ∷ []) ∙ sym (doubled_append v (34 ∷ []))),
     ))
 part_keep Returned mode' v part b e p = absurd (kept_returned (is_empty v) b mode' e)
