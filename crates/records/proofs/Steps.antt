@@ -39,44 +39,26 @@ kept_returned : (fresh : Bool) (b : ℕ) (mode : Mode) → action_of Returned fr
 kept_returned fresh b mode e = grind (arith, nat_tests)
 
 opened : (mode : Mode) (fresh : Bool) (b : ℕ) → action_of mode fresh b ≡ OpenQuotes → (mode ≡ Plain) × (b ≡ 34) × (fresh ≡ true)
-opened Plain fresh b e = (refl, grind (arith, nat_tests), grind (arith, nat_tests))
-opened Quoted fresh b e = absurd (grind (arith, nat_tests))
-opened Closing fresh b e = absurd (grind (arith, nat_tests))
-opened Returned fresh b e = absurd (grind (arith, nat_tests))
+opened mode fresh b e = (grind (arith, nat_tests), grind (arith, nat_tests), grind (arith, nat_tests))
 
 closed : (mode : Mode) (fresh : Bool) (b : ℕ) → action_of mode fresh b ≡ CloseQuotes → (mode ≡ Quoted) × (b ≡ 34)
-closed Plain fresh b e = absurd (grind (arith, nat_tests))
-closed Quoted fresh b e = (refl, grind (arith, nat_tests))
-closed Closing fresh b e = absurd (grind (arith, nat_tests))
-closed Returned fresh b e = absurd (grind (arith, nat_tests))
+closed mode fresh b e = (grind (arith, nat_tests), grind (arith, nat_tests))
 
 -- a comma and a CR come where a field may be over
 over_mode : (mode : Mode) (fresh : Bool) (b : ℕ) (a : Action) → action_of mode fresh b ≡ a → (a ≡ Separate) ⊎ (a ≡ Return) → (mode ≡ Plain) ⊎ (mode ≡ Closing)
-over_mode Plain fresh b a e o = inl refl
-over_mode Closing fresh b a e o = inr refl
-over_mode Quoted fresh b a e o = absurd (grind (arith, nat_tests))
-over_mode Returned fresh b a e o = absurd (grind (arith, nat_tests))
+over_mode mode fresh b a e o = grind (arith, nat_tests)
 
 over_field : (mode : Mode) (fresh : Bool) (b : ℕ) (v part : List ℕ) (a : Action) → action_of mode fresh b ≡ a → (a ≡ Separate) ⊎ (a ≡ Return) → Part mode v part → Field v part × (of_line_end mode ≡ 0)
 over_field mode fresh b v part a e o p = let m = over_mode mode fresh b a e o in (written_part mode v part m p, level_over mode m)
 
 separated_by : (mode : Mode) (fresh : Bool) (b : ℕ) → action_of mode fresh b ≡ Separate → b ≡ 44
-separated_by Plain fresh b e = grind (arith, nat_tests)
-separated_by Quoted fresh b e = absurd (grind (arith, nat_tests))
-separated_by Closing fresh b e = grind (arith, nat_tests)
-separated_by Returned fresh b e = absurd (grind (arith, nat_tests))
+separated_by mode fresh b e = grind (arith, nat_tests)
 
 returned_by : (mode : Mode) (fresh : Bool) (b : ℕ) → action_of mode fresh b ≡ Return → b ≡ 13
-returned_by Plain fresh b e = grind (arith, nat_tests)
-returned_by Quoted fresh b e = absurd (grind (arith, nat_tests))
-returned_by Closing fresh b e = grind (arith, nat_tests)
-returned_by Returned fresh b e = absurd (grind (arith, nat_tests))
+returned_by mode fresh b e = grind (arith, nat_tests)
 
 ended_by : (mode : Mode) (fresh : Bool) (b : ℕ) → action_of mode fresh b ≡ End → (mode ≡ Returned) × (b ≡ 10)
-ended_by Plain fresh b e = absurd (grind (arith, nat_tests))
-ended_by Quoted fresh b e = absurd (grind (arith, nat_tests))
-ended_by Closing fresh b e = absurd (grind (arith, nat_tests))
-ended_by Returned fresh b e = (refl, grind (arith, nat_tests))
+ended_by mode fresh b e = (grind (arith, nat_tests), grind (arith, nat_tests))
 
 empty : (v : List ℕ) → is_empty v ≡ true → v ≡ []
 empty [] e = refl
@@ -117,10 +99,7 @@ part_keep Closing mode' v part b e (h, p) =
 part_keep Returned mode' v part b e p = absurd (kept_returned (is_empty v) b mode' e)
 
 level_keep : (mode mode' : Mode) (fresh : Bool) (b : ℕ) → action_of mode fresh b ≡ Keep mode' → (of_line_end mode ≡ 0) × (of_line_end mode' ≡ 0)
-level_keep Plain mode' fresh b e = (refl, ap of_line_end (kept_plain fresh b mode' e).0)
-level_keep Quoted mode' fresh b e = (refl, ap of_line_end (kept_quoted fresh b mode' e).0)
-level_keep Closing mode' fresh b e = (refl, ap of_line_end (kept_closing fresh b mode' e).0)
-level_keep Returned mode' fresh b e = absurd (kept_returned fresh b mode' e)
+level_keep mode mode' fresh b e = (grind (arith, nat_tests), grind (arith, nat_tests))
 
 pub goes_keep : (mode mode' : Mode) (fs : List (List ℕ)) (v : List ℕ) (n b : ℕ) (p : List ℕ) → action_of mode (is_empty v) b ≡ Keep mode'
     → UnderWay mode fs v n p → UnderWay mode' fs (v ++ (b ∷ [])) (n + 1) (p ++ (b ∷ []))
