@@ -1,13 +1,12 @@
 -- Which replies a text of records gets, and what they make of the account table.
-use Rattle.std.specs.Prelude.{◌≡◌, ℕ, ◌+◌, ◌<◌, ◌≤◌, List, [], ◌∷◌, ◌++◌, length, drop, Some, None, Option}
+use Rattle.std.specs.Prelude.{◌≡◌, ℕ, ◌+◌, ◌<◌, ◌≤◌, List, [], ◌∷◌, ◌++◌, length, drop, Some, None, Option, Ok, Err, Result}
 use Rattle.std.specs.Option.{option_to_list}
 use Rattle.measures.specs.declared.refusal.Refusal.TheVariants.{NoCall}
 use Rattle.ends.specs.declared.table.AccountTable.{AccountTable}
 use Rattle.records.specs.Grammar.{Record, FirstFault}
 use Rattle.records.specs.Readers.{Taken}
 use Rattle.records.specs.declared.fault.Fault.{Fault}
-use Rattle.records.specs.declared.reader.Status.{Status}
-use Rattle.records.specs.declared.reader.Status.TheVariants.{Open, Complete, Failed}
+use Rattle.records.specs.declared.reader.Event.{Event}
 use Rattle.desk.specs.Calls.{call_in, word_of}
 use Rattle.desk.specs.Carrying.{Carries}
 use Rattle.desk.specs.Replies.{unread, refusal_of}
@@ -46,7 +45,7 @@ pub data TurnOn (e : Desk) (part : List ℕ) (r : Turn) (f : Desk) : Type 0 wher
       → Replied fields e.table reply f.table
       → ((p : List ℕ) → Taken e.reader p → (rest : List ℕ) → Record (p ++ (part ++ rest)) fields (drop used part ++ rest)) → TurnOn e part r f
   -- a fault of the text lies in it
-  faulty : (fault : Fault) (used : ℕ) → r ≡ End (unread (refusal_of fault)) → f.reader.status ≡ Failed fault → f.table ≡ e.table → used < length part
+  faulty : (fault : Fault) (used : ℕ) → r ≡ End (unread (refusal_of fault)) → f.reader.status ≡ Err fault → f.table ≡ e.table → used < length part
       → ((p : List ℕ) → Taken e.reader p → (rest : List ℕ) → FirstFault (p ++ (part ++ rest)) (length p + used) fault) → TurnOn e part r f
 
 -- what the end of the text does
@@ -57,19 +56,17 @@ pub data EndOn (e : Desk) (r : Option Reply) (f : Desk) : Type 0 where
   last : (reply : Reply) (fields : List (List ℕ)) → r ≡ Some reply → Replied fields e.table reply f.table
       → ((p : List ℕ) → Taken e.reader p → Record p fields []) → EndOn e r f
   -- it comes too soon
-  cut_off : (fault : Fault) → r ≡ Some (unread (refusal_of fault)) → f.reader.status ≡ Failed fault → f.table ≡ e.table
+  cut_off : (fault : Fault) → r ≡ Some (unread (refusal_of fault)) → f.reader.status ≡ Err fault → f.table ≡ e.table
       → ((p : List ℕ) → Taken e.reader p → FirstFault p (length p) fault) → EndOn e r f
 
 -- after a fault of the text the desk stays as it is, and replies the same again
-abbrev pub TurnsAs : Status → Desk → List ℕ → Turn → Desk → Type 0
-TurnsAs Open e part r f = TurnOn e part r f
-TurnsAs Complete e part r f = TurnOn e part r f
-TurnsAs (Failed fault) e part r f = (r ≡ End (unread (refusal_of fault))) × (f ≡ e)
+abbrev pub TurnsAs : Result Event Fault → Desk → List ℕ → Turn → Desk → Type 0
+TurnsAs (Ok v) e part r f = TurnOn e part r f
+TurnsAs (Err fault) e part r f = (r ≡ End (unread (refusal_of fault))) × (f ≡ e)
 
-abbrev pub EndsAs : Status → Desk → Option Reply → Desk → Type 0
-EndsAs Open e r f = EndOn e r f
-EndsAs Complete e r f = EndOn e r f
-EndsAs (Failed fault) e r f = (r ≡ Some (unread (refusal_of fault))) × (f ≡ e)
+abbrev pub EndsAs : Result Event Fault → Desk → Option Reply → Desk → Type 0
+EndsAs (Ok v) e r f = EndOn e r f
+EndsAs (Err fault) e r f = (r ≡ Some (unread (refusal_of fault))) × (f ≡ e)
 
 abbrev pub Turns : Desk → List ℕ → Turn → Desk → Type 0
 Turns e part r f = TurnsAs e.reader.status e part r f

@@ -71,7 +71,7 @@ impl Desk {
     // Replies to the record that the reader holds.
     fn reply(&mut self) -> Reply
         ensures reader { self.new.reader ≡ self.old.reader }
-        ensures replied { Replied (fields_of self.old.reader.fields) self.old.table result self.new.table }
+        ensures replied { Replied (fields_of self.old.reader.draft.fields) self.old.table result self.new.table }
     {
         match Call::try_from(self.reader.fields()) {
             Ok(call) => Reply {

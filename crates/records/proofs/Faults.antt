@@ -69,10 +69,7 @@ counts_too_much (of_bytes c h) = c
 counts_too_much (of_fields e h) = ap counts e
 
 level_counted : (mode : Mode) (fresh : Bool) (b : ℕ) (a : Action) → action_of mode fresh b ≡ a → counts a ≡ true → of_line_end mode ≡ 0
-level_counted Plain fresh b a e c = refl
-level_counted Quoted fresh b a e c = refl
-level_counted Closing fresh b a e c = refl
-level_counted Returned fresh b a e c = absurd (grind (arith, nat_tests))
+level_counted mode fresh b a e c = grind (arith, nat_tests)
 
 begins_next : (mode : Mode) (fs : List (List ℕ)) (v : List ℕ) (n b : ℕ) (p : List ℕ) (a : Action) → UnderWay mode fs v n p → action_of mode (is_empty v) b ≡ a → counts a ≡ true → Begins (p ++ (b ∷ []))
 begins_next mode fs v n b p (Keep mode') u e c = (begins_under_way mode' fs (v ++ (b ∷ [])) (n + 1) (p ++ (b ∷ [])) (goes_keep mode mode' fs v n b p e u)).0

@@ -4,6 +4,7 @@ pub mod UnderWay
 pub mod Steps
 pub mod Numbers
 pub mod Faults
+pub mod Drafts
 pub mod Readers
 pub mod Unique
 pub mod Lengths

@@ -3,9 +3,10 @@ use Rattle.std.proofs.Common.{◌≡◌, ℕ, suc, ◌+◌, ◌<◌, ◌≤◌, 
 use Rattle.std.proofs.lemmas.List.{append_assoc, append-nil, length-append, length_push}
 use Rattle.std.proofs.lemmas.Bool.{and_parts, cases_Bool, eqb-true, cond-true, cond-false}
 use Rattle.std.proofs.lemmas.Bool.Decides.{nat_tests}
+use Rattle.std.specs.List.{list_all}
 use Rattle.records.specs.Actions.{action_of}
 use Rattle.records.specs.FieldLists.{is_empty}
-use Rattle.records.specs.Grammar.{plain_byte, text_byte, every, doubled, in_quotes, Field, plain, quoted, Fields, one, more}
+use Rattle.records.specs.Grammar.{plain_byte, text_byte, doubled, in_quotes, Field, plain, quoted, Fields, one, more}
 use Rattle.records.specs.declared.action.Mode.{Mode}
 use Rattle.records.specs.declared.action.Mode.TheVariants.{Plain, Quoted, Closing, Returned}
 use Rattle.records.specs.declared.action.Action.{Action}
@@ -45,11 +46,11 @@ keeps_plain fresh b h = grind (arith, nat_tests)
 keeps_quoted : (fresh : Bool) (b : ℕ) → text_byte b ≡ true → eqb b 34 ≡ false → action_of Quoted fresh b ≡ Keep Quoted
 keeps_quoted fresh b h e = grind (arith, nat_tests)
 
-pub run_plain : (fs : List (List ℕ)) (v field : List ℕ) (n : ℕ) (rest : List ℕ) → every plain_byte field ≡ true
+pub run_plain : (fs : List (List ℕ)) (v field : List ℕ) (n : ℕ) (rest : List ℕ) → list_all plain_byte field ≡ true
     → run Plain fs v n (field ++ rest) ≡ run Plain fs (v ++ field) (n + length field) rest
 run_plain fs v [] n rest h = ap (λ u. run Plain fs u n rest) (sym (append-nil v)) ∙ ap (λ k. run Plain fs (v ++ []) k rest) (let e : n ≡ n + 0 = omega arith in e)
 run_plain fs v (b ∷ field) n rest h =
-    let p = and_parts (plain_byte b) (every plain_byte field) h in
+    let p = and_parts (plain_byte b) (list_all plain_byte field) h in
     run_step Plain fs v n b (field ++ rest) (Keep Plain) (keeps_plain (is_empty v) b p.0)
     ∙ run_plain fs (v ++ (b ∷ [])) field (n + 1) rest p.1
     ∙ ap (λ u. run Plain fs u (n + 1 + length field) rest) (append_assoc v (b ∷ []) field)
@@ -59,11 +60,11 @@ run_plain fs v (b ∷ field) n rest h =
 run_twice : (fs : List (List ℕ)) (v : List ℕ) (n : ℕ) (rest : List ℕ) → run Quoted fs v n (34 ∷ (34 ∷ rest)) ≡ run Quoted fs (v ++ (34 ∷ [])) (n + 1 + 1) rest
 run_twice fs v n rest = refl
 
-pub run_doubled : (fs : List (List ℕ)) (v field : List ℕ) (n : ℕ) (rest : List ℕ) → every text_byte field ≡ true
+pub run_doubled : (fs : List (List ℕ)) (v field : List ℕ) (n : ℕ) (rest : List ℕ) → list_all text_byte field ≡ true
     → run Quoted fs v n (doubled field ++ rest) ≡ run Quoted fs (v ++ field) (n + length (doubled field)) rest
 run_doubled fs v [] n rest h = ap (λ u. run Quoted fs u n rest) (sym (append-nil v)) ∙ ap (λ k. run Quoted fs (v ++ []) k rest) (let e : n ≡ n + 0 = omega arith in e)
 run_doubled fs v (b ∷ field) n rest h =
-    let p = and_parts (text_byte b) (every text_byte field) h in
+    let p = and_parts (text_byte b) (list_all text_byte field) h in
     let Goal : List ℕ → Type 0 = λ d. run Quoted fs v n (d ++ rest) ≡ run Quoted fs (v ++ (b ∷ field)) (n + length d) rest in
     ⊎_elim
     (λ quote. subst Goal (sym (cond-true (eqb b 34) (34 ∷ (34 ∷ doubled field)) (b ∷ doubled field) quote))
@@ -77,7 +78,7 @@ run_doubled fs v (b ∷ field) n rest h =
     ∙ ap (λ k. run Quoted fs (v ++ (b ∷ field)) k rest) (let e : n + 1 + length (doubled field) ≡ n + suc (length (doubled field)) = omega arith in e)))
     (cases_Bool (eqb b 34))
 
-pub run_in_quotes : (fs : List (List ℕ)) (field : List ℕ) (n : ℕ) (rest : List ℕ) → every text_byte field ≡ true
+pub run_in_quotes : (fs : List (List ℕ)) (field : List ℕ) (n : ℕ) (rest : List ℕ) → list_all text_byte field ≡ true
     → run Plain fs [] n (in_quotes field ++ rest) ≡ run Closing fs field (n + length (in_quotes field)) rest
 run_in_quotes fs field n rest h =
     ap (λ x. run Quoted fs [] (n + 1) x) (append_assoc (doubled field) (34 ∷ []) rest)

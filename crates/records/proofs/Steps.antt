@@ -1,11 +1,13 @@
 -- What a byte makes of a record under way: the record goes on, ends, or breaks at its first fault.
 use Rattle.std.proofs.Common.{◌≡◌, ℕ, ◌+◌, ◌≤◌, Bool, true, false, cond, eqb, ◌⊎◌, List, [], ◌∷◌, ◌++◌, length, sym, refl, ap, ◌∙◌, subst, inl, inr, arith}
 use Rattle.std.proofs.lemmas.List.{append_assoc, append-nil, length_push}
+use Rattle.std.proofs.lemmas.List.Folds.{list_all-append}
 use Rattle.std.proofs.lemmas.Bool.{and_from, cond-false}
 use Rattle.std.proofs.lemmas.Bool.Decides.{nat_tests}
+use Rattle.std.specs.List.{list_all}
 use Rattle.records.specs.Actions.{action_of}
 use Rattle.records.specs.FieldLists.{is_empty}
-use Rattle.records.specs.Grammar.{plain_byte, text_byte, every, doubled, Field, Record, ended}
+use Rattle.records.specs.Grammar.{plain_byte, text_byte, doubled, Field, Record, ended}
 use Rattle.records.specs.Reading.{next, Part, of_line_end, UnderWay}
 use Rattle.records.specs.declared.action.Mode.{Mode}
 use Rattle.records.specs.declared.action.Mode.TheVariants.{Plain, Quoted, Closing, Returned}
@@ -13,9 +15,8 @@ use Rattle.records.specs.declared.action.Action.{Action}
 use Rattle.records.specs.declared.action.Action.TheVariants.{Keep, OpenQuotes, CloseQuotes, Separate, Return, End}
 use Rattle.records.proofs.UnderWay.{last_field, written_part, level_over}
 
-every_push : (test : ℕ → Bool) (v : List ℕ) (b : ℕ) → every test v ≡ true → test b ≡ true → every test (v ++ (b ∷ [])) ≡ true
-every_push test [] b h t = and_from (test b) true t refl
-every_push test (x ∷ v) b h t = grind (arith, nat_tests, every_push test v b)
+list_all_push : (test : ℕ → Bool) (v : List ℕ) (b : ℕ) → list_all test v ≡ true → test b ≡ true → list_all test (v ++ (b ∷ [])) ≡ true
+list_all_push test v b h t = list_all-append test v (b ∷ []) ∙ and_from _ _ h (and_from _ _ t refl)
 
 doubled_append : (v w : List ℕ) → doubled (v ++ w) ≡ doubled v ++ doubled w
 doubled_append [] w = refl
@@ -38,44 +39,26 @@ kept_returned : (fresh : Bool) (b : ℕ) (mode : Mode) → action_of Returned fr
 kept_returned fresh b mode e = grind (arith, nat_tests)
 
 opened : (mode : Mode) (fresh : Bool) (b : ℕ) → action_of mode fresh b ≡ OpenQuotes → (mode ≡ Plain) × (b ≡ 34) × (fresh ≡ true)
-opened Plain fresh b e = (refl, grind (arith, nat_tests), grind (arith, nat_tests))
-opened Quoted fresh b e = absurd (grind (arith, nat_tests))
-opened Closing fresh b e = absurd (grind (arith, nat_tests))
-opened Returned fresh b e = absurd (grind (arith, nat_tests))
+opened mode fresh b e = (grind (arith, nat_tests), grind (arith, nat_tests), grind (arith, nat_tests))
 
 closed : (mode : Mode) (fresh : Bool) (b : ℕ) → action_of mode fresh b ≡ CloseQuotes → (mode ≡ Quoted) × (b ≡ 34)
-closed Plain fresh b e = absurd (grind (arith, nat_tests))
-closed Quoted fresh b e = (refl, grind (arith, nat_tests))
-closed Closing fresh b e = absurd (grind (arith, nat_tests))
-closed Returned fresh b e = absurd (grind (arith, nat_tests))
+closed mode fresh b e = (grind (arith, nat_tests), grind (arith, nat_tests))
 
 -- a comma and a CR come where a field may be over
 over_mode : (mode : Mode) (fresh : Bool) (b : ℕ) (a : Action) → action_of mode fresh b ≡ a → (a ≡ Separate) ⊎ (a ≡ Return) → (mode ≡ Plain) ⊎ (mode ≡ Closing)
-over_mode Plain fresh b a e o = inl refl
-over_mode Closing fresh b a e o = inr refl
-over_mode Quoted fresh b a e o = absurd (grind (arith, nat_tests))
-over_mode Returned fresh b a e o = absurd (grind (arith, nat_tests))
+over_mode mode fresh b a e o = grind (arith, nat_tests)
 
 over_field : (mode : Mode) (fresh : Bool) (b : ℕ) (v part : List ℕ) (a : Action) → action_of mode fresh b ≡ a → (a ≡ Separate) ⊎ (a ≡ Return) → Part mode v part → Field v part × (of_line_end mode ≡ 0)
 over_field mode fresh b v part a e o p = let m = over_mode mode fresh b a e o in (written_part mode v part m p, level_over mode m)
 
 separated_by : (mode : Mode) (fresh : Bool) (b : ℕ) → action_of mode fresh b ≡ Separate → b ≡ 44
-separated_by Plain fresh b e = grind (arith, nat_tests)
-separated_by Quoted fresh b e = absurd (grind (arith, nat_tests))
-separated_by Closing fresh b e = grind (arith, nat_tests)
-separated_by Returned fresh b e = absurd (grind (arith, nat_tests))
+separated_by mode fresh b e = grind (arith, nat_tests)
 
 returned_by : (mode : Mode) (fresh : Bool) (b : ℕ) → action_of mode fresh b ≡ Return → b ≡ 13
-returned_by Plain fresh b e = grind (arith, nat_tests)
-returned_by Quoted fresh b e = absurd (grind (arith, nat_tests))
-returned_by Closing fresh b e = grind (arith, nat_tests)
-returned_by Returned fresh b e = absurd (grind (arith, nat_tests))
+returned_by mode fresh b e = grind (arith, nat_tests)
 
 ended_by : (mode : Mode) (fresh : Bool) (b : ℕ) → action_of mode fresh b ≡ End → (mode ≡ Returned) × (b ≡ 10)
-ended_by Plain fresh b e = absurd (grind (arith, nat_tests))
-ended_by Quoted fresh b e = absurd (grind (arith, nat_tests))
-ended_by Closing fresh b e = absurd (grind (arith, nat_tests))
-ended_by Returned fresh b e = (refl, grind (arith, nat_tests))
+ended_by mode fresh b e = (grind (arith, nat_tests), grind (arith, nat_tests))
 
 empty : (v : List ℕ) → is_empty v ≡ true → v ≡ []
 empty [] e = refl
@@ -98,28 +81,25 @@ onward mode mode' fs v v' n n' b p u part' c = record {
 part_keep : (mode mode' : Mode) (v part : List ℕ) (b : ℕ) → action_of mode (is_empty v) b ≡ Keep mode' → Part mode v part → Part mode' (v ++ (b ∷ [])) (part ++ (b ∷ []))
 part_keep Plain mode' v part b e (h, p) =
     let k = kept_plain (is_empty v) b mode' e in
-    subst (λ m. Part m (v ++ (b ∷ [])) (part ++ (b ∷ []))) (sym k.0) (every_push plain_byte v b h k.1, ap (λ x. x ++ (b ∷ [])) p)
+    subst (λ m. Part m (v ++ (b ∷ [])) (part ++ (b ∷ []))) (sym k.0) (list_all_push plain_byte v b h k.1, ap (λ x. x ++ (b ∷ [])) p)
 part_keep Quoted mode' v part b e (h, p) =
     let k = kept_quoted (is_empty v) b mode' e in
     let single : doubled (b ∷ []) ≡ b ∷ [] = cond-false (eqb b 34) (34 ∷ (34 ∷ [])) (b ∷ []) k.2 in
     subst (λ m. Part m (v ++ (b ∷ [])) (part ++ (b ∷ []))) (sym k.0) (
-      every_push text_byte v b h k.1,
+      list_all_push text_byte v b h k.1,
       ap (λ x. x ++ (b ∷ [])) p ∙ ap (λ x. 34 ∷ x) (ap (λ x. doubled v ++ x) (sym single) ∙ sym (doubled_append v (b ∷ []))),
     )
 part_keep Closing mode' v part b e (h, p) =
     let k = kept_closing (is_empty v) b mode' e in
     subst (λ m. Part m (v ++ (b ∷ [])) (part ++ (b ∷ []))) (sym k.0)
     (subst (λ x. Part Quoted (v ++ (x ∷ [])) (part ++ (x ∷ []))) (sym k.1) (
-      every_push text_byte v 34 h refl,
+      list_all_push text_byte v 34 h refl,
       ap (λ x. x ++ (34 ∷ [])) p ∙ ap (λ x. 34 ∷ x) (append_assoc (doubled v) (34 ∷ []) (34 ∷ []) ∙ sym (doubled_append v (34 ∷ []))),
     ))
 part_keep Returned mode' v part b e p = absurd (kept_returned (is_empty v) b mode' e)
 
 level_keep : (mode mode' : Mode) (fresh : Bool) (b : ℕ) → action_of mode fresh b ≡ Keep mode' → (of_line_end mode ≡ 0) × (of_line_end mode' ≡ 0)
-level_keep Plain mode' fresh b e = (refl, ap of_line_end (kept_plain fresh b mode' e).0)
-level_keep Quoted mode' fresh b e = (refl, ap of_line_end (kept_quoted fresh b mode' e).0)
-level_keep Closing mode' fresh b e = (refl, ap of_line_end (kept_closing fresh b mode' e).0)
-level_keep Returned mode' fresh b e = absurd (kept_returned fresh b mode' e)
+level_keep mode mode' fresh b e = (grind (arith, nat_tests), grind (arith, nat_tests))
 
 pub goes_keep : (mode mode' : Mode) (fs : List (List ℕ)) (v : List ℕ) (n b : ℕ) (p : List ℕ) → action_of mode (is_empty v) b ≡ Keep mode'
     → UnderWay mode fs v n p → UnderWay mode' fs (v ++ (b ∷ [])) (n + 1) (p ++ (b ∷ []))

@@ -1,5 +1,7 @@
 -- How a record is written (RFC 4180): the grammar, its limits, and where the first fault of a text lies.
 use Rattle.std.specs.Prelude.{◌≡◌, ℕ, ◌+◌, ◌<◌, ◌≤◌, min, Bool, true, cond, not, ◌&&◌, ◌||◌, ◌⊎◌, List, [], ◌∷◌, ◌++◌, length, take, ◌==◌, nat_le}
+use Rattle.std.specs.List.{list_all}
+pub use Rattle.std.specs.List.{list_all as every}
 use Rattle.records.specs.declared.fault.Fault.{Fault}
 use Rattle.records.specs.declared.fault.Fault.TheVariants.{BadText, TooLong}
 
@@ -10,11 +12,6 @@ plain_byte b = nat_le 32 b && (nat_le b 126 && (not (b == 44) && not (b == 34)))
 -- a byte that a field may hold: 0x20 to 0x7E, CR or LF
 abbrev pub text_byte : ℕ → Bool
 text_byte b = (nat_le 32 b && nat_le b 126) || (b == 13 || b == 10)
-
--- whether every byte passes a test
-abbrev pub every : (ℕ → Bool) → List ℕ → Bool
-every test [] = true
-every test (b ∷ bs) = test b && every test bs
 
 -- a field's bytes as they stand between quotes: a double quote is written twice
 abbrev pub doubled : List ℕ → List ℕ
@@ -27,8 +24,8 @@ in_quotes field = 34 ∷ (doubled field ++ (34 ∷ []))
 
 -- the ways to write a field
 pub data Field : List ℕ → List ℕ → Type 0 where
-  plain : {field : List ℕ} → every plain_byte field ≡ true → Field field field
-  quoted : {field : List ℕ} → every text_byte field ≡ true → Field field (in_quotes field)
+  plain : {field : List ℕ} → list_all plain_byte field ≡ true → Field field field
+  quoted : {field : List ℕ} → list_all text_byte field ≡ true → Field field (in_quotes field)
 
 -- the ways to write a record's fields, with a comma between two
 pub data Fields : List (List ℕ) → List ℕ → Type 0 where

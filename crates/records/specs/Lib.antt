@@ -4,6 +4,7 @@ pub mod Laid
 pub mod FieldLists
 pub mod Reading
 pub mod Numbers
+pub mod Drafts
 pub mod Readers
 pub mod Buffers
 pub mod Writing

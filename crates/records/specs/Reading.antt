@@ -1,6 +1,7 @@
 -- What a reader has taken in of a record.
 use Rattle.std.specs.Prelude.{◌≡◌, ℕ, ◌+◌, true, List, [], ◌∷◌, ◌++◌, length}
-use Rattle.records.specs.Grammar.{plain_byte, text_byte, every, doubled, in_quotes, Field}
+use Rattle.std.specs.List.{list_all}
+use Rattle.records.specs.Grammar.{plain_byte, text_byte, doubled, in_quotes, Field}
 use Rattle.records.specs.declared.action.Mode.{Mode}
 use Rattle.records.specs.declared.action.Mode.TheVariants.{Plain, Quoted, Closing, Returned}
 
@@ -11,9 +12,9 @@ pub data Separated : List (List ℕ) → List ℕ → Type 0 where
 
 -- the ways to write the last field as far as it goes
 abbrev pub Part : Mode → List ℕ → List ℕ → Type 0
-Part Plain field part = (every plain_byte field ≡ true) × (part ≡ field)
-Part Quoted field part = (every text_byte field ≡ true) × (part ≡ 34 ∷ doubled field)
-Part Closing field part = (every text_byte field ≡ true) × (part ≡ in_quotes field)
+Part Plain field part = (list_all plain_byte field ≡ true) × (part ≡ field)
+Part Quoted field part = (list_all text_byte field ≡ true) × (part ≡ 34 ∷ doubled field)
+Part Closing field part = (list_all text_byte field ≡ true) × (part ≡ in_quotes field)
 Part Returned field part = (written : List ℕ) × Field field written × (part ≡ written ++ (13 ∷ []))
 
 -- how many bytes of the CRLF that ends the record are taken in

@@ -3,6 +3,7 @@
 
 mod action;
 mod bytes;
+mod draft;
 mod fault;
 mod field_list;
 mod limits;

@@ -1,24 +1,8 @@
 // A reader of records that is given its text in parts, in fixed memory.
 mod read;
-mod take_in;
 
-ghost use Rattle.std.specs.Prelude.{◌≤◌};
-ghost use Rattle.arrayvec.specs.ArrayVec.{array_vec_len};
-
-use crate::action::Mode;
+use crate::draft::Draft;
 use crate::fault::Fault;
-use crate::field_list::FieldList;
-
-/// What a reader is about.
-#[derive(Clone, Copy, PartialEq, Eq, Debug)]
-pub enum Status {
-    /// In a record, or before its first byte.
-    Open,
-    /// At the end of a record, whose fields it holds.
-    Complete,
-    /// At a fault, which ended the reading.
-    Failed(Fault),
-}
 
 /// What reading came to, where the text is not faulty.
 #[derive(Clone, Copy, PartialEq, Eq, Debug)]
@@ -41,10 +25,7 @@ pub struct Progress {
 /// Reads the records of a text one after the other.
 #[derive(Drop)]
 pub struct Reader {
-    fields: FieldList,
-    mode: Mode,
-    taken: usize,
-    status: Status,
-    ghost room: { array_vec_len fields.bytes ≤ taken },
-    ghost short: { taken ≤ 1024 },
+    draft: Draft,
+    /// What the reading came to last: a fault ended it.
+    status: Result<Event, Fault>,
 }

@@ -12,13 +12,12 @@ fn outcome(reader: &Reader, event: Result<Event, Fault>) -> Result<usize, Fault>
 
 // Reads the first record of a text that is given in two parts.
 fn read_first(reader: &mut Reader, part: &[u8], next: &[u8]) -> Result<Event, Fault> {
-    match reader.read(part).event? {
-        Event::More => match reader.read(next).event? {
-            Event::More => reader.finish(),
-            Event::Record => Ok(Event::Record),
-        },
-        Event::Record => Ok(Event::Record),
+    for text in [part, next] {
+        if reader.read(text).event? == Event::Record {
+            return Ok(Event::Record);
+        }
     }
+    reader.finish()
 }
 
 // How many fields the first record of a text has, 0 if there is none, or the text's fault.

@@ -1,31 +1,32 @@
-// How a reader takes in one byte.
-ghost use Rattle.std.specs.Prelude.{◌≡◌, ◌+◌, [], ◌∷◌, ◌++◌};
+// How a record is read on by one byte.
+ghost use Rattle.std.specs.Prelude.{[], ◌∷◌, ◌++◌};
 ghost use Rattle.records.specs.FieldLists.{complete, current};
-ghost use Rattle.records.specs.Readers.{Counted, CountedField, Takes};
+ghost use Rattle.records.specs.Drafts.{Room, Counted, CountedField, Takes};
 
 use crate::action::{Action, Mode, act};
+use crate::draft::Draft;
 use crate::fault::Fault;
 use crate::limits::MAX_BYTES;
-use crate::reader::{Event, Reader, Status};
+use crate::reader::Event;
 
-impl Reader {
-    /// Ends the reading at a fault, and gives it.
-    pub(crate) fn fail(&mut self, fault: Fault) -> Fault
-        ensures { (result ≡ fault) × (self.new.status ≡ Status.Failed fault) }
+impl Draft {
+    /// Counts a byte of the record's own, if there is room for it.
+    fn count(&mut self) -> Result<(), Fault>
+        ensures { Room self.old result self.new }
     {
-        self.status = Status::Failed(fault);
-        fault
+        if self.taken >= MAX_BYTES {
+            return Err(Fault::TooLong);
+        }
+        self.taken += 1;
+        Ok(())
     }
 
     /// Takes in a byte of the last field's value.
     fn keep(&mut self, byte: u8, mode: Mode) -> Result<Event, Fault>
         ensures { Counted result self.old self.new mode (complete self.old.fields) (current self.old.fields ++ (byte ∷ [])) }
     {
-        if self.taken >= MAX_BYTES {
-            return Err(self.fail(Fault::TooLong));
-        }
+        self.count()?;
         self.fields.add(byte);
-        self.taken += 1;
         self.mode = mode;
         Ok(Event::More)
     }
@@ -34,10 +35,7 @@ impl Reader {
     fn quote(&mut self, mode: Mode) -> Result<Event, Fault>
         ensures { Counted result self.old self.new mode (complete self.old.fields) (current self.old.fields) }
     {
-        if self.taken >= MAX_BYTES {
-            return Err(self.fail(Fault::TooLong));
-        }
-        self.taken += 1;
+        self.count()?;
         self.mode = mode;
         Ok(Event::More)
     }
@@ -46,18 +44,17 @@ impl Reader {
     fn separate(&mut self) -> Result<Event, Fault>
         ensures { CountedField result self.old self.new }
     {
-        if self.taken >= MAX_BYTES || self.fields.is_full() {
-            return Err(self.fail(Fault::TooLong));
+        if self.fields.is_full() {
+            return Err(Fault::TooLong);
         }
+        self.count()?;
         self.fields.separate();
-        self.taken += 1;
         self.mode = Mode::Plain;
         Ok(Event::More)
     }
 
-    /// Takes in a byte of the record that it is in.
+    /// Takes in a byte of the record.
     pub(crate) fn take_in(&mut self, byte: u8) -> Result<Event, Fault>
-        requires { self.old.status ≡ Status.Open }
         ensures { Takes self.old byte result self.new }
     {
         let fresh = self.fields.is_fresh();
@@ -70,11 +67,8 @@ impl Reader {
                 self.mode = Mode::Returned;
                 Ok(Event::More)
             }
-            Action::End => {
-                self.status = Status::Complete;
-                Ok(Event::Record)
-            }
-            Action::Refuse => Err(self.fail(Fault::BadText)),
+            Action::End => Ok(Event::Record),
+            Action::Refuse => Err(Fault::BadText),
         }
     }
 }
