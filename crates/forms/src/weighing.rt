@@ -5,6 +5,7 @@ ghost use Rattle.forms.specs.Limits.{whole_weight};
 ghost use Rattle.forms.specs.Lines.{has_weight, is_line_count, total_weight, weights_lawful};
 
 use crate::line::FormLine;
+use split::total_weight;
 
 /// What the weights of a form make up together.
 pub const WHOLE_WEIGHT: u64 = 10_000;
@@ -37,8 +38,5 @@ fn have_weights(lines: &[FormLine]) -> bool
 fn make_up_whole(lines: &[FormLine]) -> bool
     ensures { result ≡ (total_weight lines.now == whole_weight) }
 {
-    let total = lines
-        .iter()
-        .try_fold(0, |total: u64, line| total.checked_add(line.weight));
-    total == Some(WHOLE_WEIGHT)
+    total_weight(lines) == Some(WHOLE_WEIGHT)
 }

@@ -14,7 +14,7 @@ mod reason;
 mod weighted;
 
 use division::Division;
-pub use reason::Unsplit;
+pub use reason::{Unsplit, total_weight};
 pub use weighted::Weighted;
 
 #[cfg(test)]

@@ -44,8 +44,8 @@ impl Division {
     }
 }
 
-// The total of the weights, if it is one that a split may have.
-fn total_weight<T: Weighted>(entries: &[T]) -> Option<u64>
+/// The total of the weights of some entries, if it is one that a split may have.
+pub fn total_weight<T: Weighted>(entries: &[T]) -> Option<u64>
     ensures { result ≡ allowed_total (map T.weighs entries.now) }
 {
     entries
