@@ -7,13 +7,10 @@ ghost use Rattle.measures.specs.Rounding.{by_divisor, down, toward_zero, nearest
 pub fn rounded_down(n: i64, divisor: u64) -> Option<i64>
     ensures { result ≡ by_divisor down n divisor }
 {
-    if divisor == 0 {
-        return None;
-    }
     if n >= 0 {
-        Some((n.unsigned_abs() / divisor) as i64)
+        Some(n.unsigned_abs().checked_div(divisor)? as i64)
     } else {
-        Some(-1 - ((n.unsigned_abs() - 1) / divisor) as i64)
+        Some(-1 - (n.unsigned_abs() - 1).checked_div(divisor)? as i64)
     }
 }
 
@@ -21,21 +18,15 @@ pub fn rounded_down(n: i64, divisor: u64) -> Option<i64>
 pub fn rounded_toward_zero(n: i64, divisor: u64) -> Option<i64>
     ensures { result ≡ by_divisor toward_zero n divisor }
 {
-    if divisor == 0 {
-        return None;
-    }
-    Some(with_sign_of(n, n.unsigned_abs() / divisor))
+    Some(with_sign_of(n, n.unsigned_abs().checked_div(divisor)?))
 }
 
 /// The quotient rounded to the nearest whole number, halves away from zero.
 pub fn rounded_to_nearest(n: i64, divisor: u64) -> Option<i64>
     ensures { result ≡ by_divisor nearest n divisor }
 {
-    if divisor == 0 {
-        return None;
-    }
     let size = n.unsigned_abs();
-    let whole = size / divisor;
+    let whole = size.checked_div(divisor)?;
     let left = size % divisor;
     if left >= divisor - left {
         Some(with_sign_of(n, whole + 1))
