@@ -7,9 +7,6 @@ pub mod Faults
 pub mod Drafts
 pub mod Readers
 pub mod Unique
-pub mod Passing
 pub mod Lengths
-pub mod Lines
-pub mod Puts
 pub mod Reasons
 pub mod ReadsBack

@@ -1,6 +1,9 @@
 // Reads the number in a field, and writes a number as a field.
-ghost use Rattle.std.specs.Prelude.{◌≡◌, ◌≤◌, length, drop, if◌then◌else◌, Some, None, unsigned_abs};
-ghost use Rattle.records.specs.Numbers.{all_digits, value_of, number_in, digits_of, Writes};
+ghost use Rattle.std.specs.Prelude.{◌≡◌, ◌≤◌, length, if◌then◌else◌, Some, None};
+ghost use Rattle.records.specs.Numbers.{all_digits, value_of, number_in, Writes};
+
+use arrayvec::ArrayString;
+use itoa::Buffer;
 
 // The most digits that a number in a field may have.
 const MOST_DIGITS: usize = 15;
@@ -23,12 +26,10 @@ fn value(field: &[u8]) -> Option<u64>
     requires { length field.now ≤ 15 }
     ensures { result ≡ (if all_digits field.now then Some (value_of field.now) else None) }
 {
-    let mut worth: u64 = 0;
+    let mut worth = 0;
     for b in field {
-        if !b.is_ascii_digit() {
-            return None;
-        }
-        worth = worth * 10 + u64::from(*b - b'0');
+        let digit = char::from(*b).to_digit(10)?;
+        worth = worth * 10 + u64::from(digit);
     }
     Some(worth)
 }
@@ -36,54 +37,24 @@ fn value(field: &[u8]) -> Option<u64>
 /// The numeral of a number, in a place of its own.
 #[derive(Clone, Copy)]
 pub struct Decimal {
-    bytes: [u8; LONGEST],
-    start: usize,
-    ghost within: { start ≤ 20 },
+    text: ArrayString<LONGEST>,
 }
 
 impl Decimal {
     /// The numeral of a number.
     pub fn new(value: i64) -> Decimal
-        ensures { Writes value (drop result.start result.bytes) }
+        ensures { Writes value result.text.bytes }
     {
-        Decimal::digits(value.unsigned_abs()).with_sign_of(value)
-    }
-
-    // The digits of a number.
-    fn digits(value: u64) -> Decimal
-        ensures { drop result.start result.bytes ≡ digits_of value }
-    {
-        let mut bytes = [b'0'; LONGEST];
-        let mut start = LONGEST;
-        let mut rest = value;
-        while rest >= 10 {
-            start -= 1;
-            bytes[start] = b'0' + (rest % 10) as u8;
-            rest /= 10;
-        }
-        start -= 1;
-        bytes[start] = b'0' + rest as u8;
-        Decimal { bytes, start }
-    }
-
-    // The numeral of a number, made from the digits of its size.
-    fn with_sign_of(mut self, value: i64) -> Decimal
-        requires { drop self.start self.bytes ≡ digits_of (unsigned_abs value) }
-        ensures { Writes value (drop result.start result.bytes) }
-    {
-        if value < 0 {
-            self.start -= 1;
-            self.bytes[self.start] = b'-';
-        }
-        self
+        let mut text = ArrayString::new();
+        text.push_str(Buffer::new().format(value));
+        Decimal { text }
     }
 
     /// The bytes of the numeral.
     pub fn as_bytes(&self) -> &[u8]
-        ensures { result.now ≡ drop self.now.start self.now.bytes }
+        ensures { result.now ≡ self.now.text.bytes }
     {
-        let (_, numeral) = self.bytes.split_at(self.start);
-        numeral
+        self.text.as_bytes()
     }
 }
 
