@@ -1,9 +1,10 @@
 -- The line of a word and three numbers can always be written.
 use Rattle.std.proofs.Common.{◌≡◌, ℕ, ◌≤◌, true, List, [], ◌∷◌, ◌++◌, length, take, drop, ℤ, pos, Some, None, Ok, Err, Option, Result, IsOk, sym, refl, ap, ◌∙◌, subst, arith}
 use Rattle.std.proofs.lemmas.List.{length-append, take_at}
+use Rattle.std.specs.List.{list_all}
 use Rattle.std.proofs.lemmas.Bool.{and_parts, and_from}
 use Rattle.std.proofs.lemmas.Bool.Decides.{nat_tests}
-use Rattle.records.specs.Grammar.{every, plain_byte, text_byte, Record}
+use Rattle.records.specs.Grammar.{plain_byte, text_byte, Record}
 use Rattle.records.proofs.Lengths.{length_spelled_plain, length_whole}
 use Rattle.records.proofs.Reasons.{writable}
 use Rattle.records.specs.Writing.{spelled, comma_spelled, line, whole, all_text, unwritable, Refused, Written, Wrote}
@@ -18,14 +19,14 @@ use Rattle.desk.specs.declared.word.Word.{Word}
 use Rattle.desk.specs.declared.word.Word.TheVariants.{Account}
 
 -- a plain field is text
-plain_text : (field : List ℕ) → every plain_byte field ≡ true → every text_byte field ≡ true
+plain_text : (field : List ℕ) → list_all plain_byte field ≡ true → list_all text_byte field ≡ true
 plain_text [] h = refl
 plain_text (b ∷ field) h =
-    let p = and_parts (plain_byte b) (every plain_byte field) h in
+    let p = and_parts (plain_byte b) (list_all plain_byte field) h in
     let t : text_byte b ≡ true = let q = p.0 in grind (arith, nat_tests) in
-    and_from (text_byte b) (every text_byte field) t (plain_text field p.1)
+    and_from (text_byte b) (list_all text_byte field) t (plain_text field p.1)
 
-pub line_writable : (word refusal first second : List ℕ) → length word ≤ 8 → every plain_byte word ≡ true → Short refusal → Short first → Short second
+pub line_writable : (word refusal first second : List ℕ) → length word ≤ 8 → list_all plain_byte word ≡ true → Short refusal → Short first → Short second
     → unwritable (word ∷ (refusal ∷ (first ∷ (second ∷ [])))) 80 ≡ None
 line_writable w r f s few plain hr hf hs =
     let text : all_text (w ∷ (r ∷ (f ∷ (s ∷ [])))) ≡ true =
@@ -56,7 +57,7 @@ module _ (word refusal first second refusal' first' second' : List ℕ) (same_re
   same_fields : (word ∷ (refusal' ∷ (first' ∷ (second' ∷ [])))) ≡ (word ∷ (refusal ∷ (first ∷ (second ∷ []))))
   same_fields = cc
 
-  never_refused : (before after : List ℕ) (why : Unwritable) → length before ≡ 80 → length word ≤ 8 → every plain_byte word ≡ true → Short refusal → Short first → Short second
+  never_refused : (before after : List ℕ) (why : Unwritable) → length before ≡ 80 → length word ≤ 8 → list_all plain_byte word ≡ true → Short refusal → Short first → Short second
       → Refused (word ∷ (refusal' ∷ (first' ∷ (second' ∷ [])))) before why after → ⊥
   never_refused before after why room few plain hr hf hs r =
       let none : unwritable (word ∷ (refusal ∷ (first ∷ (second ∷ [])))) 80 ≡ None = line_writable word refusal first second few plain hr hf hs in
@@ -64,7 +65,7 @@ module _ (word refusal first second refusal' first' second' : List ℕ) (same_re
       ap (λ x. unwritable x 80) (sym same_fields) ∙ ap (unwritable (word ∷ (refusal' ∷ (first' ∷ (second' ∷ []))))) (sym room) ∙ r.reason in
       let z : ◌≡◌ {A = ℕ} 0 1 = none_some none some in omega arith
 
-  pub always_written : (before after : List ℕ) (r : Result ℕ Unwritable) → length before ≡ 80 → length word ≤ 8 → every plain_byte word ≡ true → Short refusal → Short first → Short second
+  pub always_written : (before after : List ℕ) (r : Result ℕ Unwritable) → length before ≡ 80 → length word ≤ 8 → list_all plain_byte word ≡ true → Short refusal → Short first → Short second
       → Wrote (word ∷ (refusal' ∷ (first' ∷ (second' ∷ [])))) before r after → IsOk r
   always_written before after (Ok n) room few plain hr hf hs h = refl
   always_written before after (Err why) room few plain hr hf hs h = absurd (never_refused before after why room few plain hr hf hs h)
@@ -84,9 +85,9 @@ pub word_few : (word : Option Word) (bytes : List ℕ) → bytes ≡ word_shown 
 word_few None bytes e = omega (arith, ap length e)
 word_few (Some Account) bytes e = omega (arith, ap length e)
 
-pub word_plain : (word : Option Word) (bytes : List ℕ) → bytes ≡ word_shown word → every plain_byte bytes ≡ true
-word_plain None bytes e = ap (every plain_byte) e
-word_plain (Some Account) bytes e = ap (every plain_byte) e
+pub word_plain : (word : Option Word) (bytes : List ℕ) → bytes ≡ word_shown word → list_all plain_byte bytes ≡ true
+word_plain None bytes e = ap (list_all plain_byte) e
+word_plain (Some Account) bytes e = ap (list_all plain_byte) e
 
 pub short_numeral : (z : ℤ) (bytes : List ℕ) → Writes z bytes → Short bytes
 short_numeral z bytes w = record { few = w.most; plain = w.plain }

@@ -1,6 +1,7 @@
 -- The line of a word and three numbers.
 use Rattle.std.specs.Prelude.{◌≡◌, ℕ, ◌≤◌, true, List, [], ◌∷◌, ◌++◌, length}
-use Rattle.records.specs.Grammar.{Record, every, plain_byte}
+use Rattle.std.specs.List.{list_all}
+use Rattle.records.specs.Grammar.{Record, plain_byte}
 use Rattle.records.specs.Writing.{whole}
 use Rattle.records.specs.declared.numeral.Decimal.{Decimal}
 
@@ -11,7 +12,7 @@ numeral d = d.text.bytes
 -- a field short enough for an answer, and in need of no quotes
 pub record Short (field : List ℕ) : Type 0 where
   pub few : length field ≤ 20
-  pub plain : every plain_byte field ≡ true
+  pub plain : list_all plain_byte field ≡ true
 
 -- a line is the record of these four fields, which reads back equal
 pub record Spells (line word refusal first second : List ℕ) : Type 0 where

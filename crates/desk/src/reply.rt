@@ -1,6 +1,7 @@
 // What a record is answered, and the record that says so.
 ghost use Rattle.std.specs.Prelude.{◌≡◌, ◌≤◌, true, length};
-ghost use Rattle.records.specs.Grammar.{every, plain_byte};
+ghost use Rattle.std.specs.List.{list_all};
+ghost use Rattle.records.specs.Grammar.{plain_byte};
 ghost use Rattle.desk.specs.Lines.{Short, Spells, numeral};
 ghost use Rattle.desk.specs.Replies.{Shows, unread, word_shown, refusal_of};
 
@@ -77,7 +78,7 @@ fn write_line<'a>(
     first: &'a Decimal,
     second: &'a Decimal,
 ) -> Line
-    requires short { (length word.now ≤ 8) × (every plain_byte word.now ≡ true) }
+    requires short { (length word.now ≤ 8) × (list_all plain_byte word.now ≡ true) }
     requires numbers { (Short (numeral refusal.now)) × ((Short (numeral first.now)) × (Short (numeral second.now))) }
     ensures { Spells (result.bytes.items) word.now (numeral refusal.now) (numeral first.now) (numeral second.now) }
 {

@@ -7,7 +7,8 @@ use Rattle.std.proofs.lemmas.Bool.{and_from, and_parts}
 use Rattle.std.proofs.lemmas.Bool.Decides.{nat_tests}
 use Rattle.std.proofs.lemmas.Str.Parse.{IsNumeralModel, FoldsDigits, IsDigitsTest, numerals_by_fold}
 use Rattle.std.proofs.lemmas.Fmt.{AppendsLastDigit, decimal_from_appends, length-decimal-le_succ, digits_decimal, digits_value-decimal, length-decimal-le, length_signed_le, decimal_nonempty}
-use Rattle.records.specs.Grammar.{every, plain_byte}
+use Rattle.std.specs.List.{list_all}
+use Rattle.records.specs.Grammar.{plain_byte}
 use Rattle.records.specs.Numbers.{is_digit, all_digits, is_numeral, value_after, value_of, number_in, signed_in, digits_by, digits_of, decimal_of, Writes}
 
 -- what a field gives after digits that are worth n: a number, if all of it is digits
@@ -66,7 +67,7 @@ signed_in_minus ds held = grind (arith, nat_tests)
 plain_digit : (b : ℕ) → is_digit b ≡ true → plain_byte b ≡ true
 plain_digit b digit = grind (arith, nat_tests)
 
-plain_digits : (ds : List ℕ) → all_digits ds ≡ true → every plain_byte ds ≡ true
+plain_digits : (ds : List ℕ) → all_digits ds ≡ true → list_all plain_byte ds ≡ true
 plain_digits [] all = refl
 plain_digits (b ∷ bs) all = let parts = and_parts (is_digit b) (all_digits bs) all in and_from _ _ (plain_digit b parts.0) (plain_digits bs parts.1)
 
@@ -83,7 +84,7 @@ signed_in_decimal (negsuc n) small =
 number_in_signed_decimal : (z : ℤ) (n : ℕ) → z ≡ pos n → n < 10 ^ 15 → number_in (signed_decimal z) ≡ Some n
 number_in_signed_decimal z n is few = rw is (number_in_decimal n few)
 
-plain_signed_decimal : (z : ℤ) → mag z < 2 ^ 63 → every plain_byte (signed_decimal z) ≡ true
+plain_signed_decimal : (z : ℤ) → mag z < 2 ^ 63 → list_all plain_byte (signed_decimal z) ≡ true
 plain_signed_decimal (pos n) small = plain_digits (decimal n) (digits_decimal numerals n (omega arith))
 plain_signed_decimal (negsuc n) small = plain_digits (decimal (suc n)) (digits_decimal numerals (suc n) (omega arith))
 

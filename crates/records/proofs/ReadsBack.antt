@@ -2,21 +2,22 @@
 use Rattle.std.proofs.Common.{◌≡◌, ℕ, ◌<◌, ◌≤◌, true, List, [], ◌∷◌, ◌++◌, length, take, drop, Ok, Err, Result, sym, ap, ◌∙◌, arith}
 use Rattle.std.proofs.lemmas.List.{append_assoc, append-nil, take_at}
 use Rattle.std.proofs.lemmas.Bool.{cond_both, and_parts}
-use Rattle.records.specs.Grammar.{plain_byte, text_byte, every, in_quotes, Field, plain, quoted, Fields, one, more, Record, ended}
+use Rattle.std.specs.List.{list_all}
+use Rattle.records.specs.Grammar.{plain_byte, text_byte, in_quotes, Field, plain, quoted, Fields, one, more, Record, ended}
 use Rattle.records.specs.Buffers.{Copies}
 use Rattle.records.specs.Writing.{spelled, line, whole, all_text, Wrote}
 use Rattle.records.specs.declared.writer.Unwritable.{Unwritable}
 use Rattle.records.proofs.Reasons.{no_room, writable}
 use Rattle.records.proofs.Lengths.{length_whole}
 
-pub spelled_is_field : (field : List ℕ) → every text_byte field ≡ true → Field field (spelled field)
-spelled_is_field field text = cond_both (every plain_byte field) field (in_quotes field) (Field field) (λ bare. plain bare) (λ _. quoted text)
+pub spelled_is_field : (field : List ℕ) → list_all text_byte field ≡ true → Field field (spelled field)
+spelled_is_field field text = cond_both (list_all plain_byte field) field (in_quotes field) (Field field) (λ bare. plain bare) (λ _. quoted text)
 
 pub line_is_fields : (field : List ℕ) (fields : List (List ℕ)) → all_text (field ∷ fields) ≡ true → Fields (field ∷ fields) (line (field ∷ fields))
 line_is_fields field [] text =
     rw append-nil (one (spelled_is_field field (and_parts _ _ text).0))
 line_is_fields field (next ∷ fields) text =
-    let parts = and_parts (every text_byte field) (all_text (next ∷ fields)) text in
+    let parts = and_parts (list_all text_byte field) (all_text (next ∷ fields)) text in
     more (spelled_is_field field parts.0) (line_is_fields next fields parts.1)
 
 pub whole_is_record : (field : List ℕ) (fields : List (List ℕ)) → all_text (field ∷ fields) ≡ true → length (field ∷ fields) ≤ 40 → length (line (field ∷ fields)) ≤ 1024 → (rest : List ℕ) → Record (whole (field ∷ fields) ++ rest) (field ∷ fields) rest

@@ -1,8 +1,6 @@
 -- How a record is written (RFC 4180): the grammar, its limits, and where the first fault of a text lies.
 use Rattle.std.specs.Prelude.{◌≡◌, ℕ, ◌+◌, ◌<◌, ◌≤◌, min, Bool, true, cond, not, ◌&&◌, ◌||◌, ◌⊎◌, List, [], ◌∷◌, ◌++◌, length, take, ◌==◌, nat_le}
 use Rattle.std.specs.List.{list_all}
--- the name under which the writer's definitions and the crates above cite it
-pub use Rattle.std.specs.List.{list_all as every}
 use Rattle.records.specs.declared.fault.Fault.{Fault}
 use Rattle.records.specs.declared.fault.Fault.TheVariants.{BadText, TooLong}
 

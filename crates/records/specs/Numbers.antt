@@ -1,6 +1,7 @@
 -- How numbers stand in a field: which bytes are a numeral, what it is worth, and the one numeral that a number is written as.
 use Rattle.std.specs.Prelude.{◌≡◌, ℕ, zero, suc, ◌+◌, ◌-◌, ◌*◌, ◌/◌, ◌%◌, ◌^◌, ◌<◌, ◌≤◌, Bool, true, cond, ◌&&◌, List, [], ◌∷◌, ◌++◌, length, ℤ, pos, negsuc, neg_ℤ, Some, None, Option, ◌==◌, nat_le, nat_lt}
-use Rattle.records.specs.Grammar.{every, plain_byte}
+use Rattle.std.specs.List.{list_all}
+use Rattle.records.specs.Grammar.{plain_byte}
 
 -- a byte is one of the ten digits
 abbrev pub is_digit : ℕ → Bool
@@ -8,7 +9,7 @@ is_digit b = nat_le 48 b && nat_le b 57
 
 -- every byte is a digit
 abbrev pub all_digits : List ℕ → Bool
-all_digits bs = every is_digit bs
+all_digits bs = list_all is_digit bs
 
 -- there is a digit, and there is nothing else
 abbrev pub is_numeral : List ℕ → Bool
@@ -61,4 +62,4 @@ pub record Writes (z : ℤ) (bs : List ℕ) : Type 0 where
   pub number : (n : ℕ) → z ≡ pos n → n < 10 ^ most_digits → number_in bs ≡ Some n
   pub some : 1 ≤ length bs
   pub most : length bs ≤ longest
-  pub plain : every plain_byte bs ≡ true
+  pub plain : list_all plain_byte bs ≡ true

@@ -1,14 +1,14 @@
 -- How the writer writes a record: what it puts down for each field, what it refuses, and that what it wrote reads back equal.
 use Rattle.std.specs.Prelude.{◌≡◌, ℕ, Bool, true, cond, not, ◌&&◌, ◌||◌, List, [], ◌∷◌, ◌++◌, map, length, take, drop, Some, None, Ok, Err, Option, Result, ◌==◌, nat_lt}
 use Rattle.std.specs.Borrow.{Bor}
-use Rattle.std.specs.List.{flat_map}
-use Rattle.records.specs.Grammar.{plain_byte, text_byte, every, in_quotes, Record}
+use Rattle.std.specs.List.{list_all, flat_map}
+use Rattle.records.specs.Grammar.{plain_byte, text_byte, in_quotes, Record}
 use Rattle.records.specs.declared.writer.Unwritable.{Unwritable}
 use Rattle.records.specs.declared.writer.Unwritable.TheVariants.{NoField, NotText, TooLong, NoRoom}
 
 -- a field as it is written: in quotes only where a byte of it may not stand outside them
 abbrev pub spelled : List ℕ → List ℕ
-spelled field = cond (every plain_byte field) field (in_quotes field)
+spelled field = cond (list_all plain_byte field) field (in_quotes field)
 
 -- a field as it is written after another one
 abbrev pub comma_spelled : List ℕ → List ℕ
@@ -26,7 +26,7 @@ whole fields = line fields ++ (13 ∷ (10 ∷ []))
 -- whether every field is text
 abbrev pub all_text : List (List ℕ) → Bool
 all_text [] = true
-all_text (field ∷ fields) = every text_byte field && all_text fields
+all_text (field ∷ fields) = list_all text_byte field && all_text fields
 
 -- whether a record passes a limit: 40 fields, or 1,024 bytes, its CRLF not counted
 abbrev pub too_long : List (List ℕ) → Bool

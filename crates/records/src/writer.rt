@@ -2,7 +2,8 @@
 ghost use Rattle.std.specs.Prelude.{◌≡◌, ◌<◌, ◌≤◌, [], ◌∷◌, length, IfOk, IfErr};
 ghost use Rattle.arrayvec.specs.ArrayVec.{array_vec_len};
 ghost use Rattle.records.specs.Buffers.{Adds, Copies};
-ghost use Rattle.records.specs.Grammar.{doubled, every, in_quotes, plain_byte, text_byte};
+ghost use Rattle.std.specs.List.{list_all};
+ghost use Rattle.records.specs.Grammar.{doubled, in_quotes, plain_byte, text_byte};
 ghost use Rattle.records.specs.Writing.{Wrote, all_text, bytes_of, comma_spelled, line, spelled};
 
 use super::bytes;
@@ -24,14 +25,14 @@ pub enum Unwritable {
 
 // Whether a field may be written without quotes.
 fn is_plain(field: &[u8]) -> bool
-    ensures { result ≡ every plain_byte field.now }
+    ensures { result ≡ list_all plain_byte field.now }
 {
     field.iter().all(|b| bytes::is_plain(*b))
 }
 
 // Whether a field is text.
 fn is_text(field: &[u8]) -> bool
-    ensures { result ≡ every text_byte field.now }
+    ensures { result ≡ list_all text_byte field.now }
 {
     field.iter().all(|b| bytes::is_text(*b))
 }
