@@ -13,6 +13,7 @@ use records::{FieldList, number};
 #[derive(Clone, Copy, PartialEq, Eq, Debug)]
 pub enum Call {
     /// Opens an account if the flag is 1, and closes it if the flag is 0.
+    // Any number is a flag here: a wrong one is refused where the call is carried out, and the record is a call all the same.
     Account { number: AccountNumber, flag: u64 },
 }
 

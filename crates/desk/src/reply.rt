@@ -38,6 +38,7 @@ impl Reply {
     }
 
     /// The record that shows this reply: the word, the refusal's number or 0, and two values.
+    // By name, and no `Display`: a record's quotes and limits are the writer's, which works on bytes.
     pub fn line(self) -> Line
         ensures { Shows self (result.bytes.items) }
     {

@@ -11,6 +11,7 @@ use ends::AccountTable;
 use records::{Event, Progress, Reader};
 
 /// What a part of the text came to.
+// Three outcomes, and none is an error: with an Option or a Result one of them would be a case inside another.
 #[derive(Clone, Copy, PartialEq, Eq, Debug)]
 pub enum Turn {
     /// All of it was taken in, and no record ended in it.

@@ -13,6 +13,7 @@ pub enum Word {
 
 impl Word {
     /// The word as it stands in a record.
+    // Its bytes, and no `Display`: reading compares them, and the writer of records takes a field by its bytes.
     pub(crate) fn name(self) -> &'static [u8]
         ensures { result.now ≡ name_of self }
     {

@@ -16,6 +16,7 @@ const MOST_IN_ONE_POSTING: u64 = 10_000_000_000;
 pub(crate) struct Account {
     pub(crate) number: AccountNumber,
     pub(crate) credit: Cents,
+    /// Whether it takes postings; a closed account keeps its credit, so this is no Option of the credit.
     pub(crate) open: bool,
 }
 

@@ -19,6 +19,7 @@ pub struct FormRow {
 
 impl FormRow {
     /// The row of these lines.
+    // No `From`, which takes any lines: these are as many as a form may have.
     pub(crate) fn of(lines: &[FormLine]) -> FormRow
         requires { is_line_count (length lines.now) ≡ true }
         ensures holds { lines_of result ≡ lines.now }

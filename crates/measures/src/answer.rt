@@ -8,6 +8,7 @@ use crate::refusal::Refusal;
 pub type Answer = Result<(), Refusal>;
 
 /// An answer as a record shows it: the refusal's number or 0, and two values, 0 where there is none.
+// Plain numbers, and no `Result`: they are what stands in the record.
 #[derive(Clone, Copy, PartialEq, Eq, Debug)]
 pub struct Row {
     pub refusal: u8,

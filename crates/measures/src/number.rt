@@ -18,6 +18,7 @@ pub trait Ranged: Copy {
     const LAST: u64;
 
     /// The number itself.
+    // Each type gives it by a line of its own, since no macro of ours may write an `impl`.
     fn number(self) -> u64
         ensures { result ≡ number self };
 

@@ -33,6 +33,7 @@ pub enum Refusal {
 
 impl Refusal {
     /// The number that stands for this refusal in a record.
+    // A method by name: `u8::from(refusal)` would not say which number it is.
     pub fn number(self) -> u8
         ensures { result ≡ number_of self }
     {

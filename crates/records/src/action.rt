@@ -18,6 +18,7 @@ pub enum Mode {
 }
 
 /// What a byte does.
+// Data, and no closure that does it: the proof runs the same table of actions over lists of bytes.
 #[derive(Clone, Copy, PartialEq, Eq, Debug)]
 pub enum Action {
     /// It belongs to the field's value, and the reader then stands so.

@@ -9,6 +9,7 @@ use crate::limits::{MAX_BYTES, MAX_COMMAS};
 use arrayvec::ArrayVec;
 
 /// The fields of one record: their bytes one after the other, and where each field but the last ends.
+// One buffer and the ends in it, and no list of texts: a record is kept in 1,024 bytes, and nothing here is allocated.
 #[derive(Drop)]
 pub struct FieldList {
     bytes: ArrayVec<u8, MAX_BYTES>,

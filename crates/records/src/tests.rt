@@ -95,6 +95,7 @@ fn reads_empty_texts_and_fields(rt: HostRuntime) {
 #[test]
 fn reads_the_same_in_two_parts(rt: HostRuntime) {
     let text = b"a,\"b,\"\"\r\n\",\"\",c";
+    // `k` is where the text is cut
     for k in 0..text.len() {
         let mut reader = Reader::new();
         let event = read_first(&mut reader, &text[0..k], &text[k..text.len()]);

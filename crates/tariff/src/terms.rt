@@ -38,7 +38,8 @@ pub struct Particulars {
     pub average: Rate,
 }
 
-/// What an operator gives to enrol a unit. Place and compensation are numbers here: a call takes any number and tests it.
+/// What an operator gives to enrol a unit.
+// Place and compensation are numbers here: a wrong one is refused only after the unit is looked for.
 #[derive(Clone, Copy, PartialEq, Eq, Debug)]
 pub struct Enrolment {
     /// 1 standalone, 2 behind the meter.

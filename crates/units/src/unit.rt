@@ -18,7 +18,8 @@ pub struct Unit {
 }
 
 impl Unit {
-    /// Moves the standing by a notice, given by its number, which may be any.
+    /// Moves the standing by a notice, given by its number.
+    // Any number is taken, and no `Notice`: a wrong one is refused only after the unit is looked for.
     pub(crate) fn notice(&mut self, number: u64, day: Day) -> Result<(), Refusal>
         ensures { NotedAs self.old number day result self.new }
     {

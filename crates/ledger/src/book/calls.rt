@@ -30,6 +30,7 @@ impl Book {
     }
 
     /// Moves a unit's standing: 1 authorised, 2 non-compliant, 3 remedied, 4 revoked.
+    // Any number is taken, and no `Notice`: a wrong one is refused only after the unit is looked for.
     pub fn notice(&mut self, unit: UnitNumber, notice: u64, day: Day) -> Result<(), Refusal>
         ensures { Notices self.old unit.0 notice day result self.new }
     {
@@ -53,6 +54,7 @@ impl Book {
     }
 
     /// Enters cents: 1 adds costs, which wait to join the balance, and 2 adds market revenue.
+    // Any number is taken as a kind, since each call answers whatever it is given.
     pub fn enter(&mut self, kind: u64, amount: Cents) -> Result<(), Refusal>
         ensures { Enters self.old kind amount.0 result self.new }
     {

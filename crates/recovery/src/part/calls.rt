@@ -21,7 +21,8 @@ impl Recovery {
         }
     }
 
-    /// Enters cents of a kind, which may be any number: 1 adds costs, which wait to join the balance, and 2 adds market revenue.
+    /// Enters cents of a kind: 1 adds costs, which wait to join the balance, and 2 adds market revenue.
+    // Any number is taken as a kind, since each call answers whatever it is given.
     pub fn enter(&mut self, kind: u64, amount: Cents) -> Result<(), Refusal>
         ensures { Enters self.old kind amount.0 result self.new }
     {

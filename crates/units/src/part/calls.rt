@@ -39,7 +39,8 @@ impl Units {
         Ok(())
     }
 
-    /// Moves a unit's standing by a notice, given by its number, which may be any.
+    /// Moves a unit's standing by a notice, given by its number.
+    // Any number is taken, and no `Notice`: a wrong one is refused only after the unit is looked for.
     pub fn notice(&mut self, unit: UnitNumber, number: u64, day: Day) -> Result<(), Refusal>
         ensures { Notices self.old unit.0 number day result self.new }
     {
