@@ -40,7 +40,7 @@ impl Reply {
     /// The record that shows this reply: the word, the refusal's number or 0, and two values.
     // By name, and no `Display`: a record's quotes and limits are the writer's, which works on bytes.
     pub fn line(self) -> Line
-        ensures { Shows self (result.bytes.items) }
+        ensures { Shows self result.bytes.items }
     {
         let row = Row::from(self.answer);
         let refusal = Decimal::new(i64::from(row.refusal));
@@ -81,7 +81,7 @@ fn write_line<'a>(
 ) -> Line
     requires short { (length word.now ≤ 8) × (list_all plain_byte word.now ≡ true) }
     requires numbers { (Short (numeral refusal.now)) × ((Short (numeral first.now)) × (Short (numeral second.now))) }
-    ensures { Spells (result.bytes.items) word.now (numeral refusal.now) (numeral first.now) (numeral second.now) }
+    ensures { Spells result.bytes.items word.now (numeral refusal.now) (numeral first.now) (numeral second.now) }
 {
     let fields: [&[u8]; 4] = [
         word,
