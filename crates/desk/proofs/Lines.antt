@@ -2,6 +2,7 @@
 use Rattle.std.proofs.Common.{◌≡◌, ℕ, ◌≤◌, true, List, [], ◌∷◌, ◌++◌, length, take, drop, pos, Some, None, Ok, Err, Option, Result, IsOk, sym, refl, ap, ◌∙◌, subst, arith}
 use Rattle.std.proofs.lemmas.List.{length-append, take_at}
 use Rattle.std.specs.List.{list_all}
+use Rattle.std.proofs.lemmas.Option.{none-some}
 use Rattle.std.proofs.lemmas.Bool.{and_parts, and_from}
 use Rattle.std.proofs.lemmas.Bool.Decides.{nat_tests}
 use Rattle.records.specs.Grammar.{plain_byte, text_byte, Record}
@@ -58,9 +59,6 @@ line_writable w r f s few plain hr hf hs =
     ) in
     writable (w ∷ (r ∷ (f ∷ (s ∷ [])))) 80 (omega arith) text (omega arith) (omega arith) (omega (arith, length_whole (w ∷ (r ∷ (f ∷ (s ∷ []))))))
 
-none_some : {A : Type 0} {o : Option A} {x : A} → o ≡ None → o ≡ Some x → ◌≡◌ {A = ℕ} 0 1
-none_some none some = cc
-
 -- what the writer answers of such a line
 
 module _ (word refusal first second refusal' first' second' : List ℕ) (same_refusal : refusal' ≡ refusal) (same_first : first' ≡ first) (same_second : second' ≡ second) where
@@ -73,7 +71,7 @@ module _ (word refusal first second refusal' first' second' : List ℕ) (same_re
       let none : unwritable (word ∷ (refusal ∷ (first ∷ (second ∷ [])))) 80 ≡ None = line_writable word refusal first second few plain hr hf hs in
       let some : unwritable (word ∷ (refusal ∷ (first ∷ (second ∷ [])))) 80 ≡ Some why =
       ap (λ x. unwritable x 80) (sym same_fields) ∙ ap (unwritable (word ∷ (refusal' ∷ (first' ∷ (second' ∷ []))))) (sym room) ∙ r.reason in
-      let z : ◌≡◌ {A = ℕ} 0 1 = none_some none some in omega arith
+      none-some why (sym none ∙ some)
 
   pub always_written : (before after : List ℕ) (r : Result ℕ Unwritable) → length before ≡ 80 → length word ≤ 8 → list_all plain_byte word ≡ true → Short refusal → Short first → Short second
       → Wrote (word ∷ (refusal' ∷ (first' ∷ (second' ∷ [])))) before r after → IsOk r
