@@ -1,10 +1,10 @@
 -- What a byte added or a field completed does to the fields that lie in memory.
 use Rattle.std.proofs.Common.{◌≡◌, ℕ, zero, suc, ◌+◌, ◌<◌, ◌≤◌, eqb, List, [], ◌∷◌, ◌++◌, length, get_or, drop, Some, None, sym, refl, ap, ◌∙◌, subst, ⊎_elim, add-one, arith}
 use Rattle.std.specs.List.{between, slice_get}
-use Rattle.std.proofs.lemmas.List.{length_push, length-drop, take_all, take-append-le, drop_all, get_or_append_left, get_or_push}
+use Rattle.std.proofs.lemmas.List.{length_push, length-drop, take-append-le, drop_all, get_or_append_left, get_or_push}
 use Rattle.std.proofs.lemmas.Option.{slice_get-get_or, slice_get_past}
 use Rattle.std.proofs.lemmas.Bool.{cases_lt, eq-eqb, ne_eqb}
-use Rattle.std.proofs.lemmas.Slice.{between_is}
+use Rattle.std.proofs.lemmas.Slice.{between_is, between_to_end}
 use Rattle.records.specs.FieldLists.{is_empty}
 use Rattle.records.specs.Laid.{start_of, Ordered, Inside, first_fields}
 
@@ -15,10 +15,6 @@ length_first_fields bytes ends (suc k) = length_push (first_fields bytes ends k)
 -- a part lies where it did when more comes behind it
 between_append_left : (bytes more : List ℕ) (i j : ℕ) → j ≤ length bytes → between i j (bytes ++ more) ≡ between i j bytes
 between_append_left bytes more i j h = between_is (bytes ++ more) i j ∙ ap (drop i) (take-append-le j bytes more h) ∙ sym (between_is bytes i j)
-
--- a part that goes to the end is what is left from its start
-pub between_to_end : (bytes : List ℕ) (i : ℕ) → between i (length bytes) bytes ≡ drop i bytes
-between_to_end bytes i = between_is bytes i (length bytes) ∙ ap (drop i) (take_all (length bytes) bytes (omega arith))
 
 -- a byte added behind every field leaves the complete ones
 pub first_fields_add : (bytes ends : List ℕ) (b k : ℕ) → ((j : ℕ) → j ≤ k → start_of ends j ≤ length bytes) → first_fields (bytes ++ (b ∷ [])) ends k ≡ first_fields bytes ends k
@@ -53,7 +49,7 @@ first_fields_separate bytes ends =
     ∙ ap (λ x. x ++ (between (start_of noted n) (get_or noted n 0) bytes ∷ [])) (first_fields_noted bytes ends e n (omega arith))
     ∙ ap (λ s. first_fields bytes ends n ++ (between s (get_or noted n 0) bytes ∷ [])) (start_of_noted ends e n (omega arith))
     ∙ ap (λ t. first_fields bytes ends n ++ (between (start_of ends n) t bytes ∷ [])) (get_or_push ends e 0 n refl)
-    ∙ ap (λ x. first_fields bytes ends n ++ (x ∷ [])) (between_to_end bytes (start_of ends n))
+    ∙ ap (λ x. first_fields bytes ends n ++ (x ∷ [])) (between_to_end bytes (start_of ends n) e (omega arith))
 
 pub get_or_first_fields : (bytes ends : List ℕ) (n k : ℕ) → k < n → get_or (first_fields bytes ends n) k [] ≡ between (start_of ends k) (get_or ends k 0) bytes
 get_or_first_fields bytes ends zero k h = absurd (omega arith)

@@ -1,7 +1,8 @@
 -- What a byte makes of a record under way: the record goes on, ends, or breaks at its first fault.
-use Rattle.std.proofs.Common.{◌≡◌, ℕ, ◌+◌, ◌≤◌, Bool, true, false, cond, eqb, ◌⊎◌, List, [], ◌∷◌, ◌++◌, length, sym, refl, ap, ◌∙◌, subst, inl, inr, arith}
+use Rattle.std.proofs.Common.{◌≡◌, ℕ, ◌+◌, ◌≤◌, Bool, true, false, eqb, ◌⊎◌, List, [], ◌∷◌, ◌++◌, length, sym, refl, ap, ◌∙◌, subst, inl, inr, arith}
 use Rattle.std.proofs.lemmas.List.{append_assoc, append-nil, length_push}
-use Rattle.std.proofs.lemmas.List.Folds.{list_all-append}
+use Rattle.std.proofs.lemmas.List.Concat.{flat_map-append}
+use Rattle.std.proofs.lemmas.List.Recursion.{and_push}
 use Rattle.std.proofs.lemmas.Bool.{and_from, cond-false}
 use Rattle.std.proofs.lemmas.Bool.Decides.{nat_tests}
 use Rattle.std.specs.List.{list_all}
@@ -16,13 +17,7 @@ use Rattle.records.specs.declared.action.Action.TheVariants.{Keep, OpenQuotes, C
 use Rattle.records.proofs.UnderWay.{last_field, written_part, level_over}
 
 list_all_push : (test : ℕ → Bool) (v : List ℕ) (b : ℕ) → list_all test v ≡ true → test b ≡ true → list_all test (v ++ (b ∷ [])) ≡ true
-list_all_push test v b h t = list_all-append test v (b ∷ []) ∙ and_from _ _ h (and_from _ _ t refl)
-
-doubled_append : (v w : List ℕ) → doubled (v ++ w) ≡ doubled v ++ doubled w
-doubled_append [] w = refl
-doubled_append (b ∷ v) w =
-    elim (eqb b 34) as (λ t. cond t (34 ∷ (34 ∷ doubled (v ++ w))) (b ∷ doubled (v ++ w)) ≡ cond t (34 ∷ (34 ∷ doubled v)) (b ∷ doubled v) ++ doubled w)
-    [ true ↦ ap (λ x. 34 ∷ (34 ∷ x)) (doubled_append v w) | false ↦ ap (λ x. b ∷ x) (doubled_append v w) ]
+list_all_push test v b h t = and_push (list_all test) test refl (λ _ _. refl) v b ∙ and_from _ _ h t
 
 -- what each action tells of the byte and the place
 
@@ -84,17 +79,17 @@ part_keep Plain mode' v part b e (h, p) =
     subst (λ m. Part m (v ++ (b ∷ [])) (part ++ (b ∷ []))) (sym k.0) (list_all_push plain_byte v b h k.1, ap (λ x. x ++ (b ∷ [])) p)
 part_keep Quoted mode' v part b e (h, p) =
     let k = kept_quoted (is_empty v) b mode' e in
-    let single : doubled (b ∷ []) ≡ b ∷ [] = cond-false (eqb b 34) (34 ∷ (34 ∷ [])) (b ∷ []) k.2 in
+    let single : doubled (b ∷ []) ≡ b ∷ [] = ap (λ x. x ++ []) (cond-false (eqb b 34) (34 ∷ (34 ∷ [])) (b ∷ []) k.2) in
     subst (λ m. Part m (v ++ (b ∷ [])) (part ++ (b ∷ []))) (sym k.0) (
       list_all_push text_byte v b h k.1,
-      ap (λ x. x ++ (b ∷ [])) p ∙ ap (λ x. 34 ∷ x) (ap (λ x. doubled v ++ x) (sym single) ∙ sym (doubled_append v (b ∷ []))),
+      ap (λ x. x ++ (b ∷ [])) p ∙ ap (λ x. 34 ∷ x) (ap (λ x. doubled v ++ x) (sym single) ∙ sym (flat_map-append _ v (b ∷ []))),
     )
 part_keep Closing mode' v part b e (h, p) =
     let k = kept_closing (is_empty v) b mode' e in
     subst (λ m. Part m (v ++ (b ∷ [])) (part ++ (b ∷ []))) (sym k.0)
     (subst (λ x. Part Quoted (v ++ (x ∷ [])) (part ++ (x ∷ []))) (sym k.1) (
       list_all_push text_byte v 34 h refl,
-      ap (λ x. x ++ (34 ∷ [])) p ∙ ap (λ x. 34 ∷ x) (append_assoc (doubled v) (34 ∷ []) (34 ∷ []) ∙ sym (doubled_append v (34 ∷ []))),
+      ap (λ x. x ++ (34 ∷ [])) p ∙ ap (λ x. 34 ∷ x) (append_assoc (doubled v) (34 ∷ []) (34 ∷ []) ∙ sym (flat_map-append _ v (34 ∷ []))),
     ))
 part_keep Returned mode' v part b e p = absurd (kept_returned (is_empty v) b mode' e)
 

@@ -1,5 +1,5 @@
 -- How the writer writes a record: what it puts down for each field, what it refuses, and that what it wrote reads back equal.
-use Rattle.std.specs.Prelude.{◌≡◌, ℕ, Bool, true, cond, not, ◌&&◌, ◌||◌, List, [], ◌∷◌, ◌++◌, map, length, take, drop, Some, None, Ok, Err, Option, Result, ◌==◌, nat_lt}
+use Rattle.std.specs.Prelude.{◌≡◌, ℕ, Bool, cond, not, ◌||◌, List, [], ◌∷◌, ◌++◌, map, length, take, drop, Some, None, Ok, Err, Option, Result, ◌==◌, nat_lt}
 use Rattle.std.specs.Borrow.{Bor}
 use Rattle.std.specs.List.{list_all, flat_map}
 use Rattle.records.specs.Grammar.{plain_byte, text_byte, in_quotes, Record}
@@ -25,8 +25,7 @@ whole fields = line fields ++ (13 ∷ (10 ∷ []))
 
 -- whether every field is text
 abbrev pub all_text : List (List ℕ) → Bool
-all_text [] = true
-all_text (field ∷ fields) = list_all text_byte field && all_text fields
+all_text fields = list_all (list_all text_byte) fields
 
 -- whether a record passes a limit: 40 fields, or 1,024 bytes, its CRLF not counted
 abbrev pub too_long : List (List ℕ) → Bool
