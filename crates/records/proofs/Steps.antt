@@ -2,10 +2,9 @@
 use Rattle.std.proofs.Common.{◌≡◌, ℕ, ◌+◌, ◌≤◌, Bool, true, false, eqb, ◌⊎◌, List, [], ◌∷◌, ◌++◌, length, sym, refl, ap, ◌∙◌, subst, inl, inr, arith}
 use Rattle.std.proofs.lemmas.List.{append_assoc, append-nil, length_push}
 use Rattle.std.proofs.lemmas.List.Concat.{flat_map-append}
-use Rattle.std.proofs.lemmas.List.Recursion.{and_push}
-use Rattle.std.proofs.lemmas.Bool.{and_from, cond-false}
+use Rattle.std.proofs.lemmas.Grind.{common_steps}
+use Rattle.std.proofs.lemmas.Bool.{cond-false}
 use Rattle.std.proofs.lemmas.Bool.Decides.{nat_tests}
-use Rattle.std.specs.List.{list_all}
 use Rattle.records.specs.Actions.{action_of}
 use Rattle.records.specs.FieldLists.{is_empty}
 use Rattle.records.specs.Grammar.{plain_byte, text_byte, doubled, Field, Record, ended}
@@ -15,9 +14,6 @@ use Rattle.records.specs.declared.action.Mode.TheVariants.{Plain, Quoted, Closin
 use Rattle.records.specs.declared.action.Action.{Action}
 use Rattle.records.specs.declared.action.Action.TheVariants.{Keep, OpenQuotes, CloseQuotes, Separate, Return, End}
 use Rattle.records.proofs.UnderWay.{last_field, written_part, level_over}
-
-list_all_push : (test : ℕ → Bool) (v : List ℕ) (b : ℕ) → list_all test v ≡ true → test b ≡ true → list_all test (v ++ (b ∷ [])) ≡ true
-list_all_push test v b h t = and_push (list_all test) test refl (λ _ _. refl) v b ∙ and_from _ _ h t
 
 -- what each action tells of the byte and the place
 
@@ -76,19 +72,19 @@ onward mode mode' fs v v' n n' b p u part' c = record {
 part_keep : (mode mode' : Mode) (v part : List ℕ) (b : ℕ) → action_of mode (is_empty v) b ≡ Keep mode' → Part mode v part → Part mode' (v ++ (b ∷ [])) (part ++ (b ∷ []))
 part_keep Plain mode' v part b e (h, p) =
     let k = kept_plain (is_empty v) b mode' e in
-    subst (λ m. Part m (v ++ (b ∷ [])) (part ++ (b ∷ []))) (sym k.0) (list_all_push plain_byte v b h k.1, ap (λ x. x ++ (b ∷ [])) p)
+    subst (λ m. Part m (v ++ (b ∷ [])) (part ++ (b ∷ []))) (sym k.0) (grind (arith, common_steps, k.1), ap (λ x. x ++ (b ∷ [])) p)
 part_keep Quoted mode' v part b e (h, p) =
     let k = kept_quoted (is_empty v) b mode' e in
     let single : doubled (b ∷ []) ≡ b ∷ [] = ap (λ x. x ++ []) (cond-false (eqb b 34) (34 ∷ (34 ∷ [])) (b ∷ []) k.2) in
     subst (λ m. Part m (v ++ (b ∷ [])) (part ++ (b ∷ []))) (sym k.0) (
-      list_all_push text_byte v b h k.1,
+      grind (arith, common_steps, k.1),
       ap (λ x. x ++ (b ∷ [])) p ∙ ap (λ x. 34 ∷ x) (ap (λ x. doubled v ++ x) (sym single) ∙ sym (flat_map-append _ v (b ∷ []))),
     )
 part_keep Closing mode' v part b e (h, p) =
     let k = kept_closing (is_empty v) b mode' e in
     subst (λ m. Part m (v ++ (b ∷ [])) (part ++ (b ∷ []))) (sym k.0)
     (subst (λ x. Part Quoted (v ++ (x ∷ [])) (part ++ (x ∷ []))) (sym k.1) (
-      list_all_push text_byte v 34 h refl,
+      grind (arith, common_steps),
       ap (λ x. x ++ (34 ∷ [])) p ∙ ap (λ x. 34 ∷ x) (append_assoc (doubled v) (34 ∷ []) (34 ∷ []) ∙ sym (flat_map-append _ v (34 ∷ []))),
     ))
 part_keep Returned mode' v part b e p = absurd (kept_returned (is_empty v) b mode' e)
