@@ -78,6 +78,9 @@ module _ (e f : Draft) (b : ℕ) {fresh : Bool} {act : Action} (fresh_is : fresh
   pub takes_refuse : act ≡ Refuse → Takes e b (Err BadText) e
   takes_refuse is p u = first_bad e.mode (complete e.fields) (current e.fields) e.taken b p u (few_complete e.fields) e.short (acts is)
 
+-- what each action makes of it
+pub ruleset takes = (takes_keep, takes_open, takes_close, takes_separate, takes_return, takes_end, takes_refuse)
+
 -- before the first byte of a record
 pub under_way_start : (l : FieldList) → complete l ≡ [] → current l ≡ [] → UnderWay Plain (complete l) (current l) 0 []
 under_way_start l none empty =
