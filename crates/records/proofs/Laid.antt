@@ -3,7 +3,8 @@ use Rattle.std.proofs.Common.{◌≡◌, ℕ, zero, suc, ◌+◌, ◌<◌, ◌�
 use Rattle.std.specs.List.{between, slice_get}
 use Rattle.std.proofs.lemmas.List.{length_push, length-drop, take-append-le, drop_all, get_or_append_left, get_or_push}
 use Rattle.std.proofs.lemmas.Option.{slice_get-get_or, slice_get_past}
-use Rattle.std.proofs.lemmas.Bool.{cases_lt, eq-eqb, ne_eqb}
+use Rattle.std.proofs.lemmas.Bool.{cases_lt}
+use Rattle.std.proofs.lemmas.Bool.Decides.{nat_tests}
 use Rattle.std.proofs.lemmas.Slice.{between_is, between_to_end}
 use Rattle.records.specs.FieldLists.{is_empty}
 use Rattle.records.specs.Laid.{start_of, Ordered, Inside, first_fields}
@@ -84,17 +85,8 @@ pub current_separate : (bytes ends : List ℕ) → drop (start_of (ends ++ (leng
 current_separate bytes ends = ap (λ s. drop s bytes) (start_of_next ends (length bytes)) ∙ drop_all (length bytes) bytes (omega arith)
 
 -- what is left is empty just if it starts at the end
-empty_length : (bytes : List ℕ) → eqb (length bytes) 0 ≡ is_empty bytes
-empty_length [] = refl
-empty_length (b ∷ bytes) = ne_eqb (suc (length bytes)) 0 (λ z. omega arith)
-
 pub is_empty_drop : (bytes : List ℕ) (i : ℕ) → i ≤ length bytes → eqb (length bytes) i ≡ is_empty (drop i bytes)
-is_empty_drop bytes i h =
-    let left = length-drop i bytes in
-    ⊎_elim
-    (λ lt. ne_eqb (length bytes) i (λ z. omega arith) ∙ sym (ne_eqb (length (drop i bytes)) 0 (λ z. omega arith)) ∙ empty_length (drop i bytes))
-    (λ le. eq-eqb (length bytes) i (omega arith) ∙ sym (eq-eqb (length (drop i bytes)) 0 (omega arith)) ∙ empty_length (drop i bytes))
-    (cases_lt i (length bytes))
+is_empty_drop bytes i h = let left = length-drop i bytes in grind (arith, nat_tests)
 
 pub nth_complete : (bytes ends : List ℕ) (n k : ℕ) (last : List ℕ) → k < n → slice_get (first_fields bytes ends n ++ (last ∷ [])) k ≡ Some (between (start_of ends k) (get_or ends k 0) bytes)
 nth_complete bytes ends n k last h =

@@ -1,9 +1,9 @@
 -- What a byte makes of a record under way: the record goes on, ends, or breaks at its first fault.
 use Rattle.std.proofs.Common.{◌≡◌, ℕ, ◌+◌, ◌≤◌, Bool, true, false, eqb, ◌⊎◌, List, [], ◌∷◌, ◌++◌, length, sym, refl, ap, ◌∙◌, subst, inl, inr, arith}
-use Rattle.std.proofs.lemmas.List.{append_assoc, append-nil, length_push}
+use Rattle.std.proofs.lemmas.List.{append_assoc, append-nil, length_push, nil_from_length}
 use Rattle.std.proofs.lemmas.List.Concat.{flat_map-append}
 use Rattle.std.proofs.lemmas.Grind.{common_steps}
-use Rattle.std.proofs.lemmas.Bool.{cond-false}
+use Rattle.std.proofs.lemmas.Bool.{cond-false, eqb-true}
 use Rattle.std.proofs.lemmas.Bool.Decides.{nat_tests}
 use Rattle.records.specs.Actions.{action_of}
 use Rattle.records.specs.FieldLists.{is_empty}
@@ -50,10 +50,6 @@ returned_by mode fresh b e = grind (arith, nat_tests)
 
 ended_by : (mode : Mode) (fresh : Bool) (b : ℕ) → action_of mode fresh b ≡ End → (mode ≡ Returned) × (b ≡ 10)
 ended_by mode fresh b e = (grind (arith, nat_tests), grind (arith, nat_tests))
-
-empty : (v : List ℕ) → is_empty v ≡ true → v ≡ []
-empty [] e = refl
-empty (b ∷ v) e = absurd (grind (arith, nat_tests))
 
 -- the record goes on
 
@@ -102,7 +98,7 @@ pub goes_open : (mode : Mode) (fs : List (List ℕ)) (v : List ℕ) (n b : ℕ) 
     → UnderWay mode fs v n p → UnderWay Quoted fs v (n + 1) (p ++ (b ∷ []))
 goes_open mode fs v n b p e u =
     let o = opened mode (is_empty v) b e in
-    let none : v ≡ [] = empty v o.2 in
+    let none : v ≡ [] = nil_from_length v (eqb-true (length v) 0 o.2) in
     let bare : Part Plain v u.part = subst (λ m. Part m v u.part) o.0 u.partly in
     onward mode Quoted fs v v n (n + 1) b p u
     (subst (λ w. Part Quoted w (u.part ++ (b ∷ []))) (sym none) (refl, ap (λ x. x ++ (b ∷ [])) (bare.1 ∙ none) ∙ ap (λ x. x ∷ []) o.1))
