@@ -125,12 +125,6 @@ cut_some Plain fs v n p m u = absurd (grind arith)
 cut_some Closing fs v n p m u = absurd (grind arith)
 
 module _ (d : Draft) where
-  pub finish_clear : (d.mode ≡ Plain) ⊎ (d.mode ≡ Closing) → d.taken ≡ 0 → FinishOn (Holds d) (Ok More) d
-  finish_clear m z =
-      clear refl (λ p u.
-      let none : p ≡ [] = nil_from_length p (u.counted ∙ (let k : d.taken + of_line_end d.mode ≡ 0 = omega (arith, level_over d.mode m) in k)) in
-      (none, subst (Holds d) none u))
-
   pub finish_record : (d.mode ≡ Plain) ⊎ (d.mode ≡ Closing) → 0 < d.taken → FinishOn (Holds d) (Ok Ended) d
   finish_record m some =
       finished refl (λ p u. ends_text d.mode (complete d.fields) (current d.fields) d.taken p m u (few_complete d.fields) d.short some)

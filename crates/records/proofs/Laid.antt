@@ -25,11 +25,11 @@ first_fields_add bytes ends b (suc k) h =
     ∙ ap (λ x. first_fields bytes ends k ++ (x ∷ [])) (between_append_left bytes (b ∷ []) (start_of ends k) (get_or ends k 0) (h (suc k) (omega arith)))
 
 -- an end that is noted leaves the starts before it, and is the next one
-pub start_of_noted : (ends : List ℕ) (e k : ℕ) → k ≤ length ends → start_of (ends ++ (e ∷ [])) k ≡ start_of ends k
+start_of_noted : (ends : List ℕ) (e k : ℕ) → k ≤ length ends → start_of (ends ++ (e ∷ [])) k ≡ start_of ends k
 start_of_noted ends e zero h = refl
 start_of_noted ends e (suc k) h = get_or_append_left ends (e ∷ []) 0 k h
 
-pub start_of_next : (ends : List ℕ) (e : ℕ) → start_of (ends ++ (e ∷ [])) (length (ends ++ (e ∷ []))) ≡ e
+start_of_next : (ends : List ℕ) (e : ℕ) → start_of (ends ++ (e ∷ [])) (length (ends ++ (e ∷ []))) ≡ e
 start_of_next ends e = ap (start_of (ends ++ (e ∷ []))) (length_push ends e ∙ add-one (length ends)) ∙ get_or_push ends e 0 (length ends) refl
 
 -- noting where a field ends leaves the fields before it
@@ -79,14 +79,6 @@ inside_separate ends len inside k h =
     (λ here. let same : length (ends ++ (len ∷ [])) ≡ k = omega (arith, length_push ends len) in
     subst (λ j. start_of (ends ++ (len ∷ [])) j ≤ len) same (omega (arith, start_of_next ends len)))
     (cases_lt k (length ends + 1))
-
--- the field that starts where one was completed is empty
-pub current_separate : (bytes ends : List ℕ) → drop (start_of (ends ++ (length bytes ∷ [])) (length (ends ++ (length bytes ∷ [])))) bytes ≡ []
-current_separate bytes ends = ap (λ s. drop s bytes) (start_of_next ends (length bytes)) ∙ drop_all (length bytes) bytes (omega arith)
-
--- what is left is empty just if it starts at the end
-pub is_empty_drop : (bytes : List ℕ) (i : ℕ) → i ≤ length bytes → eqb (length bytes) i ≡ is_empty (drop i bytes)
-is_empty_drop bytes i h = let left = length-drop i bytes in grind (arith, nat_tests)
 
 pub nth_complete : (bytes ends : List ℕ) (n k : ℕ) (last : List ℕ) → k < n → slice_get (first_fields bytes ends n ++ (last ∷ [])) k ≡ Some (between (start_of ends k) (get_or ends k 0) bytes)
 nth_complete bytes ends n k last h =
