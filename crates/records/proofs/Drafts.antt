@@ -1,11 +1,11 @@
 -- What a byte makes of what is read of a record, from what it makes of the record under way.
 use Rattle.std.proofs.Common.{◌≡◌, ℕ, ◌+◌, ◌<◌, ◌≤◌, Bool, true, ◌⊎◌, List, [], ◌∷◌, ◌++◌, length, get_or, take, drop, Ok, Err, Result, sym, refl, ap, ◌∙◌, subst, ⊎_elim, arith}
-use Rattle.std.proofs.lemmas.List.{append_assoc, length-append, length-take-le, take_more, drop_more, take-append-drop, nil_from_length}
+use Rattle.std.proofs.lemmas.List.{append_assoc, length-append, length-take-le, take_more, drop_more, take-append-drop}
 use Rattle.records.specs.Actions.{action_of}
 use Rattle.records.specs.FieldLists.{is_empty, complete, current, fields_of}
 use Rattle.records.specs.Grammar.{Record, FirstFault}
-use Rattle.records.specs.Reading.{UnderWay, of_line_end, start}
-use Rattle.records.specs.Drafts.{Holds, Stands, Counted, CountedField, Takes, ReadOn, ended, broken, FinishOn, clear, finished, too_soon}
+use Rattle.records.specs.Reading.{UnderWay, start}
+use Rattle.records.specs.Drafts.{Holds, Stands, Counted, CountedField, Takes, ReadOn, ended, broken, FinishOn, finished, too_soon}
 use Rattle.records.specs.declared.action.Mode.{Mode}
 use Rattle.records.specs.declared.action.Mode.TheVariants.{Plain, Quoted, Closing, Returned}
 use Rattle.records.specs.declared.action.Action.{Action}
@@ -19,7 +19,6 @@ use Rattle.records.specs.declared.reader.Event.TheVariants.{More, Record as Ende
 use Rattle.records.proofs.Laid.{length_first_fields}
 use Rattle.records.proofs.Steps.{goes_keep, goes_open, goes_close, goes_separate, goes_return, ends_record}
 use Rattle.records.proofs.Faults.{counts, TooMuch, of_bytes, of_fields, first_bad, first_long, ends_text, cut_off}
-use Rattle.records.proofs.UnderWay.{level_over}
 
 pub few_complete : (l : FieldList) → length (complete l) ≤ 39
 few_complete l = omega (arith, length_first_fields l.bytes.items l.ends.items (length l.ends.items), l.few)

@@ -1,12 +1,10 @@
 -- What a byte added or a field completed does to the fields that lie in memory.
-use Rattle.std.proofs.Common.{◌≡◌, ℕ, zero, suc, ◌+◌, ◌<◌, ◌≤◌, eqb, List, [], ◌∷◌, ◌++◌, length, get_or, drop, Some, None, sym, refl, ap, ◌∙◌, subst, ⊎_elim, add-one, arith}
+use Rattle.std.proofs.Common.{◌≡◌, ℕ, zero, suc, ◌+◌, ◌<◌, ◌≤◌, List, [], ◌∷◌, ◌++◌, length, get_or, drop, Some, None, sym, refl, ap, ◌∙◌, subst, ⊎_elim, add-one, arith}
 use Rattle.std.specs.List.{between, slice_get}
-use Rattle.std.proofs.lemmas.List.{length_push, length-drop, take-append-le, drop_all, get_or_append_left, get_or_push}
+use Rattle.std.proofs.lemmas.List.{length_push, take-append-le, get_or_append_left, get_or_push}
 use Rattle.std.proofs.lemmas.Option.{slice_get-get_or, slice_get_past}
 use Rattle.std.proofs.lemmas.Bool.{cases_lt}
-use Rattle.std.proofs.lemmas.Bool.Decides.{nat_tests}
 use Rattle.std.proofs.lemmas.Slice.{between_is, between_to_end}
-use Rattle.records.specs.FieldLists.{is_empty}
 use Rattle.records.specs.Laid.{start_of, Ordered, Inside, first_fields}
 
 pub length_first_fields : (bytes ends : List ℕ) (k : ℕ) → length (first_fields bytes ends k) ≡ k

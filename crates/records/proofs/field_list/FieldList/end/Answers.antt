@@ -1,7 +1,4 @@
-use Rattle.std.proofs.Common.{◌≡◌, suc, ◌<◌, ◌≤◌, get_or, length, Some, sym, ap, ◌∙◌, subst, arith}
-use Rattle.std.specs.List.{slice_get, between}
-use Rattle.std.proofs.lemmas.Slice.{between_to_end}
-use Rattle.records.specs.FieldLists.{current, fields_of}
+use Rattle.std.proofs.Common.{suc, ◌<◌, ◌≤◌, get_or, length, sym, subst, arith}
 use Rattle.records.specs.Laid.{start_of}
 use Rattle.records.proofs.field_list.FieldList.end.Goals as goal
 
