@@ -12,7 +12,7 @@ all_digits bs = list_all is_ascii_digit bs
 abbrev pub is_numeral : List ℕ → Bool
 is_numeral bs = nat_le 1 (length bs) && all_digits bs
 
--- what digits are worth: each of them after ten times what those before it are worth
+-- what digits are worth, read from the left: ten times what is read so far, and the next digit
 abbrev pub value_of : List ℕ → ℕ
 value_of bs = fold (λ n b. n * 10 + (b - 48)) 0 bs
 
