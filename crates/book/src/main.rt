@@ -13,7 +13,7 @@ fn main(rt: HostRuntime) -> io::Result<()> {
     let mut output = BufWriter::new(rt.alloc(), rt.stdout())?;
     let mut desk = Desk::new();
     let mut chunk = [0; CHUNK_BYTES];
-    // A count, and no `loop`: every loop is proved to end, and input has no end that is known.
+    // A count, and no loop without one: that would need leave to run for ever, which nothing here has.
     for _ in 0..u64::MAX {
         let n = input.read(&mut chunk)?;
         if n == 0 {

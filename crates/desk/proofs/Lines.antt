@@ -1,7 +1,8 @@
 -- The line of a word and three numbers can always be written.
-use Rattle.std.proofs.Common.{◌≡◌, ℕ, ◌≤◌, true, List, [], ◌∷◌, ◌++◌, length, take, drop, ℤ, pos, Some, None, Ok, Err, Option, Result, IsOk, sym, refl, ap, ◌∙◌, subst, arith}
+use Rattle.std.proofs.Common.{◌≡◌, ℕ, ◌≤◌, true, List, [], ◌∷◌, ◌++◌, length, take, drop, pos, Some, None, Ok, Err, Option, Result, IsOk, sym, refl, ap, ◌∙◌, subst, arith}
 use Rattle.std.proofs.lemmas.List.{length-append, take_at}
 use Rattle.std.specs.List.{list_all}
+use Rattle.std.proofs.lemmas.Option.{none-some}
 use Rattle.std.proofs.lemmas.Bool.{and_parts, and_from}
 use Rattle.std.proofs.lemmas.Bool.Decides.{nat_tests}
 use Rattle.records.specs.Grammar.{plain_byte, text_byte, Record}
@@ -9,14 +10,24 @@ use Rattle.records.proofs.Lengths.{length_spelled_plain, length_whole}
 use Rattle.records.proofs.Reasons.{writable}
 use Rattle.records.specs.Writing.{spelled, comma_spelled, line, whole, all_text, unwritable, Refused, Written, Wrote}
 use Rattle.records.specs.declared.writer.Unwritable.{Unwritable}
-use Rattle.records.specs.Numbers.{decimal_of, Writes}
+use Rattle.records.specs.Numbers.{decimal_of}
 use Rattle.measures.specs.Answers.{row_of}
 use Rattle.measures.specs.declared.answer.Row.{Row}
-use Rattle.desk.specs.Lines.{Short, Spells}
+use Rattle.records.specs.declared.numeral.Decimal.{Decimal}
 use Rattle.desk.specs.Replies.{word_shown, fields_shown, Shows}
 use Rattle.desk.specs.declared.reply.Reply.{Reply}
 use Rattle.desk.specs.declared.word.Word.{Word}
 use Rattle.desk.specs.declared.word.Word.TheVariants.{Account}
+
+-- a field short enough for an answer, and in need of no quotes
+pub record Short (field : List ℕ) : Type 0 where
+  pub few : length field ≤ 20
+  pub plain : list_all plain_byte field ≡ true
+
+-- a line is the record of these four fields, which reads back equal
+pub record Spells (line word refusal first second : List ℕ) : Type 0 where
+  pub exact : line ≡ whole (word ∷ (refusal ∷ (first ∷ (second ∷ []))))
+  pub reads_back : (rest : List ℕ) → Record (line ++ rest) (word ∷ (refusal ∷ (first ∷ (second ∷ [])))) rest
 
 -- a plain field is text
 plain_text : (field : List ℕ) → list_all plain_byte field ≡ true → list_all text_byte field ≡ true
@@ -48,9 +59,6 @@ line_writable w r f s few plain hr hf hs =
     ) in
     writable (w ∷ (r ∷ (f ∷ (s ∷ [])))) 80 (omega arith) text (omega arith) (omega arith) (omega (arith, length_whole (w ∷ (r ∷ (f ∷ (s ∷ []))))))
 
-none_some : {A : Type 0} {o : Option A} {x : A} → o ≡ None → o ≡ Some x → ◌≡◌ {A = ℕ} 0 1
-none_some none some = cc
-
 -- what the writer answers of such a line
 
 module _ (word refusal first second refusal' first' second' : List ℕ) (same_refusal : refusal' ≡ refusal) (same_first : first' ≡ first) (same_second : second' ≡ second) where
@@ -63,7 +71,7 @@ module _ (word refusal first second refusal' first' second' : List ℕ) (same_re
       let none : unwritable (word ∷ (refusal ∷ (first ∷ (second ∷ [])))) 80 ≡ None = line_writable word refusal first second few plain hr hf hs in
       let some : unwritable (word ∷ (refusal ∷ (first ∷ (second ∷ [])))) 80 ≡ Some why =
       ap (λ x. unwritable x 80) (sym same_fields) ∙ ap (unwritable (word ∷ (refusal' ∷ (first' ∷ (second' ∷ []))))) (sym room) ∙ r.reason in
-      let z : ◌≡◌ {A = ℕ} 0 1 = none_some none some in omega arith
+      none-some why (sym none ∙ some)
 
   pub always_written : (before after : List ℕ) (r : Result ℕ Unwritable) → length before ≡ 80 → length word ≤ 8 → list_all plain_byte word ≡ true → Short refusal → Short first → Short second
       → Wrote (word ∷ (refusal' ∷ (first' ∷ (second' ∷ [])))) before r after → IsOk r
@@ -89,8 +97,9 @@ pub word_plain : (word : Option Word) (bytes : List ℕ) → bytes ≡ word_show
 word_plain None bytes e = ap (list_all plain_byte) e
 word_plain (Some Account) bytes e = ap (list_all plain_byte) e
 
-pub short_numeral : (z : ℤ) (bytes : List ℕ) → Writes z bytes → Short bytes
-short_numeral z bytes w = record { few = w.most; plain = w.plain }
+-- every numeral is short and plain
+pub short_numeral : (d : Decimal) → Short d.text.bytes
+short_numeral d = record { few = d.few; plain = d.plain }
 
 pub shows_reply : (reply : Reply) (row : Row) (line word refusal first second : List ℕ) → Spells line word refusal first second → row ≡ row_of reply.answer
     → word ≡ word_shown reply.word → refusal ≡ decimal_of (pos row.refusal) → first ≡ decimal_of row.first → second ≡ decimal_of row.second → Shows reply line

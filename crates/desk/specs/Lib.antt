@@ -2,6 +2,5 @@
 pub mod Words
 pub mod Calls
 pub mod Replies
-pub mod Lines
 pub mod Carrying
 pub mod Serving

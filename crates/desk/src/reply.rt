@@ -1,8 +1,6 @@
 // What a record is answered, and the record that says so.
-ghost use Rattle.std.specs.Prelude.{◌≡◌, ◌≤◌, true, length};
-ghost use Rattle.std.specs.List.{list_all};
-ghost use Rattle.records.specs.Grammar.{plain_byte};
-ghost use Rattle.desk.specs.Lines.{Short, Spells, numeral};
+ghost use Rattle.std.specs.Prelude.{◌≡◌, ◌≤◌};
+ghost use Rattle.arrayvec.specs.ArrayVec.{array_vec_len};
 ghost use Rattle.desk.specs.Replies.{Shows, unread, word_shown, refusal_of};
 
 use crate::word::Word;
@@ -24,6 +22,7 @@ pub struct Reply {
 #[derive(Drop)]
 pub struct Line {
     bytes: ArrayVec<u8, LINE_BYTES>,
+    ghost within: { array_vec_len bytes ≤ 80 },
 }
 
 impl Reply {
@@ -40,13 +39,23 @@ impl Reply {
     /// The record that shows this reply: the word, the refusal's number or 0, and two values.
     // By name, and no `Display`: a record's quotes and limits are the writer's, which works on bytes.
     pub fn line(self) -> Line
-        ensures { Shows self (result.bytes.items) }
+        ensures { Shows self result.bytes.items }
     {
         let row = Row::from(self.answer);
         let refusal = Decimal::new(i64::from(row.refusal));
         let first = Decimal::new(row.first);
         let second = Decimal::new(row.second);
-        write_line(self.shown(), &refusal, &first, &second)
+        let fields: [&[u8]; 4] = [
+            self.shown(),
+            refusal.as_bytes(),
+            first.as_bytes(),
+            second.as_bytes(),
+        ];
+        let mut places = [0; LINE_BYTES];
+        let len = write_record(&fields, &mut places).unwrap();
+        let mut bytes = ArrayVec::from(places);
+        bytes.truncate(len);
+        Line { bytes }
     }
 
     // The word as the record shows it.
@@ -70,30 +79,6 @@ impl From<Fault> for Reply {
             Fault::TooLong => Reply::unread(Refusal::TooLong),
         }
     }
-}
-
-// The line of a record of a word and three numbers.
-fn write_line<'a>(
-    word: &'a [u8],
-    refusal: &'a Decimal,
-    first: &'a Decimal,
-    second: &'a Decimal,
-) -> Line
-    requires short { (length word.now ≤ 8) × (list_all plain_byte word.now ≡ true) }
-    requires numbers { (Short (numeral refusal.now)) × ((Short (numeral first.now)) × (Short (numeral second.now))) }
-    ensures { Spells (result.bytes.items) word.now (numeral refusal.now) (numeral first.now) (numeral second.now) }
-{
-    let fields: [&[u8]; 4] = [
-        word,
-        refusal.as_bytes(),
-        first.as_bytes(),
-        second.as_bytes(),
-    ];
-    let mut places = [0; LINE_BYTES];
-    let len = write_record(&fields, &mut places).unwrap();
-    let mut bytes = ArrayVec::from(places);
-    bytes.truncate(len);
-    Line { bytes }
 }
 
 impl Line {

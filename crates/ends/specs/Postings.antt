@@ -1,9 +1,10 @@
 -- What a posting means at every billing end, by the credits and the reaches that the end shows.
-use Rattle.std.specs.Prelude.{◌≡◌, ℕ, ◌+◌, Bool, false, cond, ◌&&◌, ◌==◌, nat_le}
+use Rattle.std.specs.Prelude.{◌≡◌, ℕ, ◌+◌, Bool, false, cond, ◌&&◌, ◌==◌}
+use Rattle.std.specs.Int.{is_in_range}
 
 -- whether an account of this reach takes a posting of so many cents: from 1 to its reach
 abbrev pub takes : ℕ → ℕ → Bool
-takes reach cents = nat_le 1 cents && nat_le cents reach
+takes reach cents = is_in_range 1 reach cents
 
 -- a posting of so many cents to an account, and what it makes of the credits and the reaches
 pub record Posting (credit reach : ℕ → ℕ) (account cents : ℕ) (taken : Bool) (credit' reach' : ℕ → ℕ) : Type 0 where

@@ -15,6 +15,7 @@ mod postings;
 const MAX_ACCOUNTS: usize = 256;
 
 /// A table of accounts, open or closed. A closed account stays listed and keeps its credit.
+// No `impl Model`: the laws of a billing end need every account to be sound, and a list alone would not say so.
 #[derive(Drop)]
 pub struct AccountTable {
     accounts: ArrayVec<Account, MAX_ACCOUNTS>,

@@ -1,4 +1,5 @@
 -- What is known of a lawful row, and which rows are lawful.
+use Rattle.std.proofs.Math.Bool.{and-true}
 use Rattle.std.proofs.Common.{◌≡◌, ℕ, ◌+◌, ◌-◌, ◌≤◌, Bool, true, false, ◌&&◌, eqb, leb, List, length, replicate, zero, suc, refl, sym, ap, ◌∙◌, arith, length-append, length-take-le}
 use Rattle.std.proofs.Math.Seq.{drop-append_seam, take-append_seam}
 use Rattle.std.proofs.lemmas.List.{length-replicate}
@@ -21,10 +22,6 @@ count_within row h = within row.count (and_parts (is_line_count row.count) (is_f
 made_twice : (a b c : Bool) → (a && ((a && b) && c)) ≡ ((a && b) && c)
 made_twice true b c = refl
 made_twice false b c = refl
-
-left_out : (b : Bool) → (b && true) ≡ b
-left_out true = refl
-left_out false = refl
 
 -- the lines of a row make a form, and nothing stands past them
 abbrev pub is_form : FormRow → Bool
@@ -57,4 +54,4 @@ row_of_lawful lines counts =
     ∙ ap (λ xs. weights_lawful xs && (accounts_lawful xs && list_all is_blank (past_lines row))) (take-append_seam lines blanks)
     ∙ ap (λ xs. weights_lawful lines && (accounts_lawful lines && list_all is_blank xs)) (drop-append_seam lines blanks)
     ∙ ap (λ b. weights_lawful lines && (accounts_lawful lines && b)) (all_blank (most_lines - length lines))
-    ∙ ap (λ b. weights_lawful lines && b) (left_out (accounts_lawful lines))
+    ∙ ap (λ b. weights_lawful lines && b) (and-true (accounts_lawful lines))

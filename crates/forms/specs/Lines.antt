@@ -1,5 +1,6 @@
 -- A list of lines: whether its weights and its accounts make a form.
 use Rattle.std.specs.Prelude.{ℕ, Bool, true, not, ◌&&◌, List, [], ◌∷◌, length, None, sum_by, Option, ◌==◌, nat_le}
+use Rattle.std.specs.Int.{is_in_range}
 use Rattle.std.specs.List.{list_all, list_any}
 use Rattle.measures.specs.Answers.{unless}
 use Rattle.measures.specs.Measures.{is_account}
@@ -10,7 +11,7 @@ use Rattle.forms.specs.Limits.{whole_weight, most_lines}
 
 -- whether a form may have so many lines
 abbrev pub is_line_count : ℕ → Bool
-is_line_count n = nat_le 1 n && nat_le n most_lines
+is_line_count n = is_in_range 1 most_lines n
 
 -- whether a line has a weight
 abbrev pub has_weight : FormLine → Bool

@@ -1,6 +1,7 @@
 // The four measures. Each is a type of its own, so that none is taken for another.
 // A measure carries no range: a call takes any number and tests it.
 // An amount that is never negative has the unsigned type of its measure; one that may be has the signed type beside it.
+// The two are no generic struct over the number: an alias makes no value, so `SignedCents(5)` would be `Cents::<i64>(5)`.
 ghost use Rattle.std.specs.Prelude.{◌≡◌};
 ghost use Rattle.measures.specs.Measures.{highest_rate};
 ghost use Rattle.measures.specs.Rounding.{down, whole_cents, fraction};
@@ -16,7 +17,7 @@ const MILLICENTS_OF_A_CENT: u64 = 1000;
 pub struct Kwh(pub u64);
 
 /// A price of energy, in thousandths of a cent per kilowatt-hour.
-#[derive(Clone, Copy, PartialEq, Eq, Default, Debug)]
+#[derive(Clone, Copy, PartialEq, Eq, Debug)]
 pub struct Rate(pub u64);
 
 /// A rate that may be negative: a unit's net rate, or a class factor.
@@ -24,11 +25,11 @@ pub struct Rate(pub u64);
 pub struct SignedRate(pub i64);
 
 /// Money, in whole cents.
-#[derive(Clone, Copy, PartialEq, Eq, Default, Debug)]
+#[derive(Clone, Copy, PartialEq, Eq, PartialOrd, Ord, Default, Debug)]
 pub struct Cents(pub u64);
 
 /// Cents that may be negative: a balance, or a share of one.
-#[derive(Clone, Copy, PartialEq, Eq, Default, Debug)]
+#[derive(Clone, Copy, PartialEq, Eq, Debug)]
 pub struct SignedCents(pub i64);
 
 /// Money, in thousandths of a cent ($0.00001).

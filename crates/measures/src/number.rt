@@ -1,6 +1,8 @@
-// The numbers that name a thing or a day, and what has a range. None carries its range: a call takes any number and tests it.
+// The numbers that name a thing or a day, each a type of its own, so that none is taken for another; and what has a range.
+// None carries its range: a call takes any number and tests it.
 ghost use Rattle.std.specs.Prelude.{◌≡◌, ℕ};
-ghost use Rattle.measures.specs.Measures.{in_range, last_account, last_class, last_day, last_unit};
+ghost use Rattle.std.specs.Int.{is_in_range};
+ghost use Rattle.measures.specs.Measures.{last_account, last_class, last_day, last_unit};
 
 /// A number that lies in a range or not.
 pub trait Ranged: Copy {
@@ -24,7 +26,7 @@ pub trait Ranged: Copy {
 
     /// Whether this number lies in its range.
     final fn is_in_range(self) -> bool
-        ensures { result ≡ in_range FIRST LAST (number self) }
+        ensures { result ≡ is_in_range FIRST LAST (number self) }
     {
         (Self::FIRST..=Self::LAST).contains(&self.number())
     }

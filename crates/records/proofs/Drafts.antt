@@ -1,11 +1,11 @@
 -- What a byte makes of what is read of a record, from what it makes of the record under way.
 use Rattle.std.proofs.Common.{◌≡◌, ℕ, ◌+◌, ◌<◌, ◌≤◌, Bool, true, ◌⊎◌, List, [], ◌∷◌, ◌++◌, length, get_or, take, drop, Ok, Err, Result, sym, refl, ap, ◌∙◌, subst, ⊎_elim, arith}
-use Rattle.std.proofs.lemmas.List.{append_assoc, length-append, length-take-le, take_more, drop_more, take-append-drop, nil_from_length}
+use Rattle.std.proofs.lemmas.List.{append_assoc, length-append, length-take-le, take_more, drop_more, take-append-drop}
 use Rattle.records.specs.Actions.{action_of}
 use Rattle.records.specs.FieldLists.{is_empty, complete, current, fields_of}
 use Rattle.records.specs.Grammar.{Record, FirstFault}
-use Rattle.records.specs.Reading.{UnderWay, of_line_end, start}
-use Rattle.records.specs.Drafts.{Holds, Stands, Counted, CountedField, Takes, ReadOn, ended, broken, FinishOn, clear, finished, too_soon}
+use Rattle.records.specs.Reading.{UnderWay, start}
+use Rattle.records.specs.Drafts.{Holds, Stands, Counted, CountedField, Takes, ReadOn, ended, broken, FinishOn, finished, too_soon}
 use Rattle.records.specs.declared.action.Mode.{Mode}
 use Rattle.records.specs.declared.action.Mode.TheVariants.{Plain, Quoted, Closing, Returned}
 use Rattle.records.specs.declared.action.Action.{Action}
@@ -19,7 +19,6 @@ use Rattle.records.specs.declared.reader.Event.TheVariants.{More, Record as Ende
 use Rattle.records.proofs.Laid.{length_first_fields}
 use Rattle.records.proofs.Steps.{goes_keep, goes_open, goes_close, goes_separate, goes_return, ends_record}
 use Rattle.records.proofs.Faults.{counts, TooMuch, of_bytes, of_fields, first_bad, first_long, ends_text, cut_off}
-use Rattle.records.proofs.UnderWay.{level_over}
 
 pub few_complete : (l : FieldList) → length (complete l) ≤ 39
 few_complete l = omega (arith, length_first_fields l.bytes.items l.ends.items (length l.ends.items), l.few)
@@ -78,6 +77,9 @@ module _ (e f : Draft) (b : ℕ) {fresh : Bool} {act : Action} (fresh_is : fresh
   pub takes_refuse : act ≡ Refuse → Takes e b (Err BadText) e
   takes_refuse is p u = first_bad e.mode (complete e.fields) (current e.fields) e.taken b p u (few_complete e.fields) e.short (acts is)
 
+-- what each action makes of it
+pub ruleset takes = (takes_keep, takes_open, takes_close, takes_separate, takes_return, takes_end, takes_refuse)
+
 -- before the first byte of a record
 pub under_way_start : (l : FieldList) → complete l ≡ [] → current l ≡ [] → UnderWay Plain (complete l) (current l) 0 []
 under_way_start l none empty =
@@ -122,12 +124,6 @@ cut_some Plain fs v n p m u = absurd (grind arith)
 cut_some Closing fs v n p m u = absurd (grind arith)
 
 module _ (d : Draft) where
-  pub finish_clear : (d.mode ≡ Plain) ⊎ (d.mode ≡ Closing) → d.taken ≡ 0 → FinishOn (Holds d) (Ok More) d
-  finish_clear m z =
-      clear refl (λ p u.
-      let none : p ≡ [] = nil_from_length p (u.counted ∙ (let k : d.taken + of_line_end d.mode ≡ 0 = omega (arith, level_over d.mode m) in k)) in
-      (none, subst (Holds d) none u))
-
   pub finish_record : (d.mode ≡ Plain) ⊎ (d.mode ≡ Closing) → 0 < d.taken → FinishOn (Holds d) (Ok Ended) d
   finish_record m some =
       finished refl (λ p u. ends_text d.mode (complete d.fields) (current d.fields) d.taken p m u (few_complete d.fields) d.short some)

@@ -1,11 +1,10 @@
 -- What a byte added or a field completed does to the fields that lie in memory.
-use Rattle.std.proofs.Common.{◌≡◌, ℕ, zero, suc, ◌+◌, ◌<◌, ◌≤◌, eqb, List, [], ◌∷◌, ◌++◌, length, get_or, drop, Some, None, sym, refl, ap, ◌∙◌, subst, ⊎_elim, add-one, arith}
+use Rattle.std.proofs.Common.{◌≡◌, ℕ, zero, suc, ◌+◌, ◌<◌, ◌≤◌, List, [], ◌∷◌, ◌++◌, length, get_or, drop, Some, None, sym, refl, ap, ◌∙◌, subst, ⊎_elim, add-one, arith}
 use Rattle.std.specs.List.{between, slice_get}
-use Rattle.std.proofs.lemmas.List.{length_push, length-drop, take_all, take-append-le, drop_all, get_or_append_left, get_or_push}
+use Rattle.std.proofs.lemmas.List.{length_push, take-append-le, get_or_append_left, get_or_push}
 use Rattle.std.proofs.lemmas.Option.{slice_get-get_or, slice_get_past}
-use Rattle.std.proofs.lemmas.Bool.{cases_lt, eq-eqb, ne_eqb}
-use Rattle.std.proofs.lemmas.Slice.{between_is}
-use Rattle.records.specs.FieldLists.{is_empty}
+use Rattle.std.proofs.lemmas.Bool.{cases_lt}
+use Rattle.std.proofs.lemmas.Slice.{between_is, between_to_end}
 use Rattle.records.specs.Laid.{start_of, Ordered, Inside, first_fields}
 
 pub length_first_fields : (bytes ends : List ℕ) (k : ℕ) → length (first_fields bytes ends k) ≡ k
@@ -16,10 +15,6 @@ length_first_fields bytes ends (suc k) = length_push (first_fields bytes ends k)
 between_append_left : (bytes more : List ℕ) (i j : ℕ) → j ≤ length bytes → between i j (bytes ++ more) ≡ between i j bytes
 between_append_left bytes more i j h = between_is (bytes ++ more) i j ∙ ap (drop i) (take-append-le j bytes more h) ∙ sym (between_is bytes i j)
 
--- a part that goes to the end is what is left from its start
-pub between_to_end : (bytes : List ℕ) (i : ℕ) → between i (length bytes) bytes ≡ drop i bytes
-between_to_end bytes i = between_is bytes i (length bytes) ∙ ap (drop i) (take_all (length bytes) bytes (omega arith))
-
 -- a byte added behind every field leaves the complete ones
 pub first_fields_add : (bytes ends : List ℕ) (b k : ℕ) → ((j : ℕ) → j ≤ k → start_of ends j ≤ length bytes) → first_fields (bytes ++ (b ∷ [])) ends k ≡ first_fields bytes ends k
 first_fields_add bytes ends b zero h = refl
@@ -28,11 +23,11 @@ first_fields_add bytes ends b (suc k) h =
     ∙ ap (λ x. first_fields bytes ends k ++ (x ∷ [])) (between_append_left bytes (b ∷ []) (start_of ends k) (get_or ends k 0) (h (suc k) (omega arith)))
 
 -- an end that is noted leaves the starts before it, and is the next one
-pub start_of_noted : (ends : List ℕ) (e k : ℕ) → k ≤ length ends → start_of (ends ++ (e ∷ [])) k ≡ start_of ends k
+start_of_noted : (ends : List ℕ) (e k : ℕ) → k ≤ length ends → start_of (ends ++ (e ∷ [])) k ≡ start_of ends k
 start_of_noted ends e zero h = refl
 start_of_noted ends e (suc k) h = get_or_append_left ends (e ∷ []) 0 k h
 
-pub start_of_next : (ends : List ℕ) (e : ℕ) → start_of (ends ++ (e ∷ [])) (length (ends ++ (e ∷ []))) ≡ e
+start_of_next : (ends : List ℕ) (e : ℕ) → start_of (ends ++ (e ∷ [])) (length (ends ++ (e ∷ []))) ≡ e
 start_of_next ends e = ap (start_of (ends ++ (e ∷ []))) (length_push ends e ∙ add-one (length ends)) ∙ get_or_push ends e 0 (length ends) refl
 
 -- noting where a field ends leaves the fields before it
@@ -53,7 +48,7 @@ first_fields_separate bytes ends =
     ∙ ap (λ x. x ++ (between (start_of noted n) (get_or noted n 0) bytes ∷ [])) (first_fields_noted bytes ends e n (omega arith))
     ∙ ap (λ s. first_fields bytes ends n ++ (between s (get_or noted n 0) bytes ∷ [])) (start_of_noted ends e n (omega arith))
     ∙ ap (λ t. first_fields bytes ends n ++ (between (start_of ends n) t bytes ∷ [])) (get_or_push ends e 0 n refl)
-    ∙ ap (λ x. first_fields bytes ends n ++ (x ∷ [])) (between_to_end bytes (start_of ends n))
+    ∙ ap (λ x. first_fields bytes ends n ++ (x ∷ [])) (between_to_end bytes (start_of ends n) e (omega arith))
 
 pub get_or_first_fields : (bytes ends : List ℕ) (n k : ℕ) → k < n → get_or (first_fields bytes ends n) k [] ≡ between (start_of ends k) (get_or ends k 0) bytes
 get_or_first_fields bytes ends zero k h = absurd (omega arith)
@@ -82,23 +77,6 @@ inside_separate ends len inside k h =
     (λ here. let same : length (ends ++ (len ∷ [])) ≡ k = omega (arith, length_push ends len) in
     subst (λ j. start_of (ends ++ (len ∷ [])) j ≤ len) same (omega (arith, start_of_next ends len)))
     (cases_lt k (length ends + 1))
-
--- the field that starts where one was completed is empty
-pub current_separate : (bytes ends : List ℕ) → drop (start_of (ends ++ (length bytes ∷ [])) (length (ends ++ (length bytes ∷ [])))) bytes ≡ []
-current_separate bytes ends = ap (λ s. drop s bytes) (start_of_next ends (length bytes)) ∙ drop_all (length bytes) bytes (omega arith)
-
--- what is left is empty just if it starts at the end
-empty_length : (bytes : List ℕ) → eqb (length bytes) 0 ≡ is_empty bytes
-empty_length [] = refl
-empty_length (b ∷ bytes) = ne_eqb (suc (length bytes)) 0 (λ z. omega arith)
-
-pub is_empty_drop : (bytes : List ℕ) (i : ℕ) → i ≤ length bytes → eqb (length bytes) i ≡ is_empty (drop i bytes)
-is_empty_drop bytes i h =
-    let left = length-drop i bytes in
-    ⊎_elim
-    (λ lt. ne_eqb (length bytes) i (λ z. omega arith) ∙ sym (ne_eqb (length (drop i bytes)) 0 (λ z. omega arith)) ∙ empty_length (drop i bytes))
-    (λ le. eq-eqb (length bytes) i (omega arith) ∙ sym (eq-eqb (length (drop i bytes)) 0 (omega arith)) ∙ empty_length (drop i bytes))
-    (cases_lt i (length bytes))
 
 pub nth_complete : (bytes ends : List ℕ) (n k : ℕ) (last : List ℕ) → k < n → slice_get (first_fields bytes ends n ++ (last ∷ [])) k ≡ Some (between (start_of ends k) (get_or ends k 0) bytes)
 nth_complete bytes ends n k last h =

@@ -1,7 +1,7 @@
 -- The reader as a machine over lists, without limits, and that it reads what the grammar writes.
-use Rattle.std.proofs.Common.{◌≡◌, ℕ, suc, ◌+◌, ◌<◌, ◌≤◌, Bool, true, false, eqb, List, [], ◌∷◌, ◌++◌, length, sym, refl, ap, ◌∙◌, subst, ⊎_elim, arith}
+use Rattle.std.proofs.Common.{◌≡◌, ℕ, suc, ◌+◌, ◌<◌, ◌≤◌, Bool, true, false, eqb, List, [], ◌∷◌, ◌++◌, length, sym, refl, ap, ◌∙◌, arith}
 use Rattle.std.proofs.lemmas.List.{append_assoc, append-nil, length-append, length_push}
-use Rattle.std.proofs.lemmas.Bool.{and_parts, cases_Bool, eqb-true, cond-true, cond-false}
+use Rattle.std.proofs.lemmas.Bool.{and_parts, cond_both, eqb-true}
 use Rattle.std.proofs.lemmas.Bool.Decides.{nat_tests}
 use Rattle.std.specs.List.{list_all}
 use Rattle.records.specs.Actions.{action_of}
@@ -65,18 +65,15 @@ pub run_doubled : (fs : List (List ℕ)) (v field : List ℕ) (n : ℕ) (rest : 
 run_doubled fs v [] n rest h = ap (λ u. run Quoted fs u n rest) (sym (append-nil v)) ∙ ap (λ k. run Quoted fs (v ++ []) k rest) (let e : n ≡ n + 0 = omega arith in e)
 run_doubled fs v (b ∷ field) n rest h =
     let p = and_parts (text_byte b) (list_all text_byte field) h in
-    let Goal : List ℕ → Type 0 = λ d. run Quoted fs v n (d ++ rest) ≡ run Quoted fs (v ++ (b ∷ field)) (n + length d) rest in
-    ⊎_elim
-    (λ quote. subst Goal (sym (cond-true (eqb b 34) (34 ∷ (34 ∷ doubled field)) (b ∷ doubled field) quote))
-    (run_doubled fs (v ++ (34 ∷ [])) field (n + 1 + 1) rest p.1
+    cond_both (eqb b 34) (34 ∷ (34 ∷ [])) (b ∷ [])
+    (λ d. run Quoted fs v n ((d ++ doubled field) ++ rest) ≡ run Quoted fs (v ++ (b ∷ field)) (n + length (d ++ doubled field)) rest)
+    (λ quote. run_doubled fs (v ++ (34 ∷ [])) field (n + 1 + 1) rest p.1
     ∙ ap (λ u. run Quoted fs u (n + 1 + 1 + length (doubled field)) rest) (append_assoc v (34 ∷ []) field ∙ ap (λ x. v ++ (x ∷ field)) (sym (eqb-true b 34 quote)))
-    ∙ ap (λ k. run Quoted fs (v ++ (b ∷ field)) k rest) (let e : n + 1 + 1 + length (doubled field) ≡ n + suc (suc (length (doubled field))) = omega arith in e)))
-    (λ other. subst Goal (sym (cond-false (eqb b 34) (34 ∷ (34 ∷ doubled field)) (b ∷ doubled field) other))
-    (run_step Quoted fs v n b (doubled field ++ rest) (Keep Quoted) (keeps_quoted (is_empty v) b p.0 other)
+    ∙ ap (λ k. run Quoted fs (v ++ (b ∷ field)) k rest) (let e : n + 1 + 1 + length (doubled field) ≡ n + suc (suc (length (doubled field))) = omega arith in e))
+    (λ other. run_step Quoted fs v n b (doubled field ++ rest) (Keep Quoted) (keeps_quoted (is_empty v) b p.0 other)
     ∙ run_doubled fs (v ++ (b ∷ [])) field (n + 1) rest p.1
     ∙ ap (λ u. run Quoted fs u (n + 1 + length (doubled field)) rest) (append_assoc v (b ∷ []) field)
-    ∙ ap (λ k. run Quoted fs (v ++ (b ∷ field)) k rest) (let e : n + 1 + length (doubled field) ≡ n + suc (length (doubled field)) = omega arith in e)))
-    (cases_Bool (eqb b 34))
+    ∙ ap (λ k. run Quoted fs (v ++ (b ∷ field)) k rest) (let e : n + 1 + length (doubled field) ≡ n + suc (length (doubled field)) = omega arith in e))
 
 pub run_in_quotes : (fs : List (List ℕ)) (field : List ℕ) (n : ℕ) (rest : List ℕ) → list_all text_byte field ≡ true
     → run Plain fs [] n (in_quotes field ++ rest) ≡ run Closing fs field (n + length (in_quotes field)) rest

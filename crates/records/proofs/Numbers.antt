@@ -1,5 +1,5 @@
 -- Numerals of numbers: their digits, their length, and that they read back as the number.
-use Rattle.std.proofs.Common.{◌≡◌, ℕ, suc, ◌^◌, ◌<◌, ◌≤◌, true, cond, List, [], ◌∷◌, length, ℤ, pos, negsuc, neg_ℤ, Some, None, decimal, Option, sym, refl, ap, arith, rules}
+use Rattle.std.proofs.Common.{◌≡◌, ℕ, suc, ◌+◌, ◌-◌, ◌*◌, ◌^◌, ◌<◌, ◌≤◌, true, cond, List, [], ◌∷◌, length, ℤ, pos, negsuc, neg_ℤ, Some, None, decimal, Option, sym, refl, ap, arith, rules}
 use native.Mathlib.Nat.{pow-le-pow_right}
 use lib.Signed.{mag}
 use Rattle.std.specs.Fmt.{signed_decimal}
@@ -7,9 +7,14 @@ use Rattle.std.proofs.lemmas.Bool.{and_from, and_parts}
 use Rattle.std.proofs.lemmas.Bool.Decides.{nat_tests}
 use Rattle.std.proofs.lemmas.Str.Parse.{IsNumeralModel, FoldsDigits, IsDigitsTest, numerals_by_fold}
 use Rattle.std.proofs.lemmas.Fmt.{AppendsLastDigit, decimal_from_appends, length-decimal-le_succ, digits_decimal, digits_value-decimal, length-decimal-le, length_signed_le, decimal_nonempty}
-use Rattle.std.specs.List.{list_all}
+use Rattle.std.specs.List.{list_all, fold}
+use Rattle.std.specs.Char.{is_ascii_digit}
 use Rattle.records.specs.Grammar.{plain_byte}
-use Rattle.records.specs.Numbers.{is_digit, all_digits, is_numeral, value_after, value_of, number_in, signed_in, digits_by, digits_of, decimal_of, Writes}
+use Rattle.records.specs.Numbers.{all_digits, is_numeral, value_of, number_in, signed_in, digits_by, digits_of, decimal_of, Writes}
+
+-- what digits are worth after others that are worth n
+abbrev value_after : ℕ → List ℕ → ℕ
+value_after n bs = fold (λ n b. n * 10 + (b - 48)) n bs
 
 -- what a field gives after digits that are worth n: a number, if all of it is digits
 abbrev pub read_after : ℕ → List ℕ → Option ℕ
@@ -64,12 +69,12 @@ signed_in_numeral (b ∷ bs) held = signed_in_cons b bs held
 signed_in_minus : (ds : List ℕ) → is_numeral ds ≡ true → signed_in (45 ∷ ds) ≡ Some (neg_ℤ (pos (value_of ds)))
 signed_in_minus ds held = grind (arith, nat_tests)
 
-plain_digit : (b : ℕ) → is_digit b ≡ true → plain_byte b ≡ true
+plain_digit : (b : ℕ) → is_ascii_digit b ≡ true → plain_byte b ≡ true
 plain_digit b digit = grind (arith, nat_tests)
 
 plain_digits : (ds : List ℕ) → all_digits ds ≡ true → list_all plain_byte ds ≡ true
 plain_digits [] all = refl
-plain_digits (b ∷ bs) all = let parts = and_parts (is_digit b) (all_digits bs) all in and_from _ _ (plain_digit b parts.0) (plain_digits bs parts.1)
+plain_digits (b ∷ bs) all = let parts = and_parts (is_ascii_digit b) (all_digits bs) all in and_from _ _ (plain_digit b parts.0) (plain_digits bs parts.1)
 
 signed_in_decimal : (z : ℤ) → mag z < 2 ^ 63 → signed_in (signed_decimal z) ≡ Some z
 signed_in_decimal (pos n) small =

@@ -1,10 +1,10 @@
 -- What a byte makes of a record under way: the record goes on, ends, or breaks at its first fault.
-use Rattle.std.proofs.Common.{◌≡◌, ℕ, ◌+◌, ◌≤◌, Bool, true, false, cond, eqb, ◌⊎◌, List, [], ◌∷◌, ◌++◌, length, sym, refl, ap, ◌∙◌, subst, inl, inr, arith}
-use Rattle.std.proofs.lemmas.List.{append_assoc, append-nil, length_push}
-use Rattle.std.proofs.lemmas.List.Folds.{list_all-append}
-use Rattle.std.proofs.lemmas.Bool.{and_from, cond-false}
+use Rattle.std.proofs.Common.{◌≡◌, ℕ, ◌+◌, ◌≤◌, Bool, true, false, eqb, ◌⊎◌, List, [], ◌∷◌, ◌++◌, length, sym, refl, ap, ◌∙◌, subst, inl, inr, arith}
+use Rattle.std.proofs.lemmas.List.{append_assoc, append-nil, length_push, nil_from_length}
+use Rattle.std.proofs.lemmas.List.Concat.{flat_map-append}
+use Rattle.std.proofs.lemmas.Grind.{common_steps}
+use Rattle.std.proofs.lemmas.Bool.{cond-false, eqb-true}
 use Rattle.std.proofs.lemmas.Bool.Decides.{nat_tests}
-use Rattle.std.specs.List.{list_all}
 use Rattle.records.specs.Actions.{action_of}
 use Rattle.records.specs.FieldLists.{is_empty}
 use Rattle.records.specs.Grammar.{plain_byte, text_byte, doubled, Field, Record, ended}
@@ -14,15 +14,6 @@ use Rattle.records.specs.declared.action.Mode.TheVariants.{Plain, Quoted, Closin
 use Rattle.records.specs.declared.action.Action.{Action}
 use Rattle.records.specs.declared.action.Action.TheVariants.{Keep, OpenQuotes, CloseQuotes, Separate, Return, End}
 use Rattle.records.proofs.UnderWay.{last_field, written_part, level_over}
-
-list_all_push : (test : ℕ → Bool) (v : List ℕ) (b : ℕ) → list_all test v ≡ true → test b ≡ true → list_all test (v ++ (b ∷ [])) ≡ true
-list_all_push test v b h t = list_all-append test v (b ∷ []) ∙ and_from _ _ h (and_from _ _ t refl)
-
-doubled_append : (v w : List ℕ) → doubled (v ++ w) ≡ doubled v ++ doubled w
-doubled_append [] w = refl
-doubled_append (b ∷ v) w =
-    elim (eqb b 34) as (λ t. cond t (34 ∷ (34 ∷ doubled (v ++ w))) (b ∷ doubled (v ++ w)) ≡ cond t (34 ∷ (34 ∷ doubled v)) (b ∷ doubled v) ++ doubled w)
-    [ true ↦ ap (λ x. 34 ∷ (34 ∷ x)) (doubled_append v w) | false ↦ ap (λ x. b ∷ x) (doubled_append v w) ]
 
 -- what each action tells of the byte and the place
 
@@ -60,10 +51,6 @@ returned_by mode fresh b e = grind (arith, nat_tests)
 ended_by : (mode : Mode) (fresh : Bool) (b : ℕ) → action_of mode fresh b ≡ End → (mode ≡ Returned) × (b ≡ 10)
 ended_by mode fresh b e = (grind (arith, nat_tests), grind (arith, nat_tests))
 
-empty : (v : List ℕ) → is_empty v ≡ true → v ≡ []
-empty [] e = refl
-empty (b ∷ v) e = absurd (grind (arith, nat_tests))
-
 -- the record goes on
 
 -- one byte more of the last field
@@ -81,20 +68,20 @@ onward mode mode' fs v v' n n' b p u part' c = record {
 part_keep : (mode mode' : Mode) (v part : List ℕ) (b : ℕ) → action_of mode (is_empty v) b ≡ Keep mode' → Part mode v part → Part mode' (v ++ (b ∷ [])) (part ++ (b ∷ []))
 part_keep Plain mode' v part b e (h, p) =
     let k = kept_plain (is_empty v) b mode' e in
-    subst (λ m. Part m (v ++ (b ∷ [])) (part ++ (b ∷ []))) (sym k.0) (list_all_push plain_byte v b h k.1, ap (λ x. x ++ (b ∷ [])) p)
+    subst (λ m. Part m (v ++ (b ∷ [])) (part ++ (b ∷ []))) (sym k.0) (grind (arith, common_steps, k.1), ap (λ x. x ++ (b ∷ [])) p)
 part_keep Quoted mode' v part b e (h, p) =
     let k = kept_quoted (is_empty v) b mode' e in
-    let single : doubled (b ∷ []) ≡ b ∷ [] = cond-false (eqb b 34) (34 ∷ (34 ∷ [])) (b ∷ []) k.2 in
+    let single : doubled (b ∷ []) ≡ b ∷ [] = ap (λ x. x ++ []) (cond-false (eqb b 34) (34 ∷ (34 ∷ [])) (b ∷ []) k.2) in
     subst (λ m. Part m (v ++ (b ∷ [])) (part ++ (b ∷ []))) (sym k.0) (
-      list_all_push text_byte v b h k.1,
-      ap (λ x. x ++ (b ∷ [])) p ∙ ap (λ x. 34 ∷ x) (ap (λ x. doubled v ++ x) (sym single) ∙ sym (doubled_append v (b ∷ []))),
+      grind (arith, common_steps, k.1),
+      ap (λ x. x ++ (b ∷ [])) p ∙ ap (λ x. 34 ∷ x) (ap (λ x. doubled v ++ x) (sym single) ∙ sym (flat_map-append _ v (b ∷ []))),
     )
 part_keep Closing mode' v part b e (h, p) =
     let k = kept_closing (is_empty v) b mode' e in
     subst (λ m. Part m (v ++ (b ∷ [])) (part ++ (b ∷ []))) (sym k.0)
     (subst (λ x. Part Quoted (v ++ (x ∷ [])) (part ++ (x ∷ []))) (sym k.1) (
-      list_all_push text_byte v 34 h refl,
-      ap (λ x. x ++ (34 ∷ [])) p ∙ ap (λ x. 34 ∷ x) (append_assoc (doubled v) (34 ∷ []) (34 ∷ []) ∙ sym (doubled_append v (34 ∷ []))),
+      grind (arith, common_steps),
+      ap (λ x. x ++ (34 ∷ [])) p ∙ ap (λ x. 34 ∷ x) (append_assoc (doubled v) (34 ∷ []) (34 ∷ []) ∙ sym (flat_map-append _ v (34 ∷ []))),
     ))
 part_keep Returned mode' v part b e p = absurd (kept_returned (is_empty v) b mode' e)
 
@@ -111,7 +98,7 @@ pub goes_open : (mode : Mode) (fs : List (List ℕ)) (v : List ℕ) (n b : ℕ) 
     → UnderWay mode fs v n p → UnderWay Quoted fs v (n + 1) (p ++ (b ∷ []))
 goes_open mode fs v n b p e u =
     let o = opened mode (is_empty v) b e in
-    let none : v ≡ [] = empty v o.2 in
+    let none : v ≡ [] = nil_from_length v (eqb-true (length v) 0 o.2) in
     let bare : Part Plain v u.part = subst (λ m. Part m v u.part) o.0 u.partly in
     onward mode Quoted fs v v n (n + 1) b p u
     (subst (λ w. Part Quoted w (u.part ++ (b ∷ []))) (sym none) (refl, ap (λ x. x ++ (b ∷ [])) (bare.1 ∙ none) ∙ ap (λ x. x ∷ []) o.1))

@@ -1,5 +1,5 @@
 -- What a list of fields holds.
-use Rattle.std.specs.Prelude.{ℕ, Bool, true, false, List, [], ◌∷◌, ◌++◌, drop}
+use Rattle.std.specs.Prelude.{ℕ, Bool, List, [], ◌∷◌, ◌++◌, length, drop, ◌==◌}
 use Rattle.arrayvec.specs.ArrayVec.{array_vec_len}
 use Rattle.records.specs.Laid.{start_of, first_fields}
 use Rattle.records.specs.declared.field_list.FieldList.{FieldList}
@@ -18,5 +18,4 @@ fields_of l = complete l ++ (current l ∷ [])
 
 -- whether there is no byte
 abbrev pub is_empty : List ℕ → Bool
-is_empty [] = true
-is_empty (b ∷ bs) = false
+is_empty bs = length bs == 0

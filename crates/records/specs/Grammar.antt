@@ -1,6 +1,6 @@
 -- How a record is written (RFC 4180): the grammar, its limits, and where the first fault of a text lies.
 use Rattle.std.specs.Prelude.{◌≡◌, ℕ, ◌+◌, ◌<◌, ◌≤◌, min, Bool, true, cond, not, ◌&&◌, ◌||◌, ◌⊎◌, List, [], ◌∷◌, ◌++◌, length, take, ◌==◌, nat_le}
-use Rattle.std.specs.List.{list_all}
+use Rattle.std.specs.List.{list_all, flat_map}
 use Rattle.records.specs.declared.fault.Fault.{Fault}
 use Rattle.records.specs.declared.fault.Fault.TheVariants.{BadText, TooLong}
 
@@ -14,8 +14,7 @@ text_byte b = (nat_le 32 b && nat_le b 126) || (b == 13 || b == 10)
 
 -- a field's bytes as they stand between quotes: a double quote is written twice
 abbrev pub doubled : List ℕ → List ℕ
-doubled [] = []
-doubled (b ∷ bs) = cond (b == 34) (34 ∷ (34 ∷ doubled bs)) (b ∷ doubled bs)
+doubled field = flat_map (λ b. cond (b == 34) (34 ∷ (34 ∷ [])) (b ∷ [])) field
 
 -- a field as it stands between quotes
 abbrev pub in_quotes : List ℕ → List ℕ

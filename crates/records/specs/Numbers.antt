@@ -1,28 +1,20 @@
 -- How numbers stand in a field: which bytes are a numeral, what it is worth, and the one numeral that a number is written as.
 use Rattle.std.specs.Prelude.{◌≡◌, ℕ, zero, suc, ◌+◌, ◌-◌, ◌*◌, ◌/◌, ◌%◌, ◌^◌, ◌<◌, ◌≤◌, Bool, true, cond, ◌&&◌, List, [], ◌∷◌, ◌++◌, length, ℤ, pos, negsuc, neg_ℤ, Some, None, Option, ◌==◌, nat_le, nat_lt}
-use Rattle.std.specs.List.{list_all}
+use Rattle.std.specs.List.{list_all, fold}
+use Rattle.std.specs.Char.{is_ascii_digit}
 use Rattle.records.specs.Grammar.{plain_byte}
 
--- a byte is one of the ten digits
-abbrev pub is_digit : ℕ → Bool
-is_digit b = nat_le 48 b && nat_le b 57
-
--- every byte is a digit
+-- every byte is one of the ten digits
 abbrev pub all_digits : List ℕ → Bool
-all_digits bs = list_all is_digit bs
+all_digits bs = list_all is_ascii_digit bs
 
 -- there is a digit, and there is nothing else
 abbrev pub is_numeral : List ℕ → Bool
 is_numeral bs = nat_le 1 (length bs) && all_digits bs
 
--- what digits are worth after others that are worth n
-abbrev pub value_after : ℕ → List ℕ → ℕ
-value_after n [] = n
-value_after n (b ∷ bs) = value_after (n * 10 + (b - 48)) bs
-
--- what digits are worth
+-- what digits are worth, read from the left: ten times what is read so far, and the next digit
 abbrev pub value_of : List ℕ → ℕ
-value_of bs = value_after 0 bs
+value_of bs = fold (λ n b. n * 10 + (b - 48)) 0 bs
 
 -- the most digits that a number in a field may have
 abbrev pub most_digits : ℕ

@@ -1,7 +1,7 @@
 -- How the writer writes a record: what it puts down for each field, what it refuses, and that what it wrote reads back equal.
-use Rattle.std.specs.Prelude.{◌≡◌, ℕ, Bool, true, cond, not, ◌&&◌, ◌||◌, List, [], ◌∷◌, ◌++◌, map, length, take, drop, Some, None, Ok, Err, Option, Result, ◌==◌, nat_lt}
+use Rattle.std.specs.Prelude.{◌≡◌, ℕ, Bool, cond, not, ◌||◌, List, [], ◌∷◌, ◌++◌, map, length, take, drop, Some, None, Ok, Err, Option, Result, ◌==◌, nat_lt}
 use Rattle.std.specs.Borrow.{Bor}
-use Rattle.std.specs.List.{list_all, flat_map}
+use Rattle.std.specs.List.{list_all, join_by}
 use Rattle.records.specs.Grammar.{plain_byte, text_byte, in_quotes, Record}
 use Rattle.records.specs.declared.writer.Unwritable.{Unwritable}
 use Rattle.records.specs.declared.writer.Unwritable.TheVariants.{NoField, NotText, TooLong, NoRoom}
@@ -16,8 +16,7 @@ comma_spelled field = 44 ∷ spelled field
 
 -- a record's fields as they are written, with a comma between two
 abbrev pub line : List (List ℕ) → List ℕ
-line [] = []
-line (field ∷ fields) = spelled field ++ flat_map comma_spelled fields
+line fields = join_by spelled (44 ∷ []) fields
 
 -- a record as it is written, with its CRLF
 abbrev pub whole : List (List ℕ) → List ℕ
@@ -25,8 +24,7 @@ whole fields = line fields ++ (13 ∷ (10 ∷ []))
 
 -- whether every field is text
 abbrev pub all_text : List (List ℕ) → Bool
-all_text [] = true
-all_text (field ∷ fields) = list_all text_byte field && all_text fields
+all_text fields = list_all (list_all text_byte) fields
 
 -- whether a record passes a limit: 40 fields, or 1,024 bytes, its CRLF not counted
 abbrev pub too_long : List (List ℕ) → Bool

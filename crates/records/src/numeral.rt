@@ -1,5 +1,7 @@
 // Reads the number in a field, and writes a number as a field.
-ghost use Rattle.std.specs.Prelude.{◌≡◌, ◌≤◌, length, if◌then◌else◌, Some, None};
+ghost use Rattle.std.specs.Prelude.{◌≡◌, ◌≤◌, true, length, if◌then◌else◌, Some, None};
+ghost use Rattle.std.specs.List.{list_all};
+ghost use Rattle.records.specs.Grammar.{plain_byte};
 ghost use Rattle.records.specs.Numbers.{all_digits, value_of, number_in, Writes};
 
 use arrayvec::ArrayString;
@@ -38,6 +40,8 @@ fn value(field: &[u8]) -> Option<u64>
 #[derive(Clone, Copy)]
 pub struct Decimal {
     text: ArrayString<LONGEST>,
+    ghost few: { length text.bytes ≤ 20 },
+    ghost plain: { list_all plain_byte text.bytes ≡ true },
 }
 
 impl Decimal {

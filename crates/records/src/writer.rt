@@ -24,6 +24,7 @@ pub enum Unwritable {
 }
 
 // Whether a field may be written without quotes.
+// This function and the next are the library's `all`, each with its own test; in a function of its own the check proves it alone.
 fn is_plain(field: &[u8]) -> bool
     ensures { result ≡ list_all plain_byte field.now }
 {

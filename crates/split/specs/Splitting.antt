@@ -1,5 +1,6 @@
 -- When an amount can be split, and what the split makes of the places for the shares.
-use Rattle.std.specs.Prelude.{◌≡◌, ℕ, Bool, cond, ◌&&◌, List, length, ℤ, Some, None, sum, Option, Result, ◌==◌, nat_le, unsigned_abs}
+use Rattle.std.specs.Prelude.{◌≡◌, ℕ, Bool, cond, List, length, ℤ, Some, None, sum, Option, Result, ◌==◌, nat_le, unsigned_abs}
+use Rattle.std.specs.Int.{is_in_range}
 use Rattle.measures.specs.Answers.{Answered, unless}
 use Rattle.measures.specs.declared.measure.SignedCents.{SignedCents}
 use Rattle.split.specs.Shares.{amounts, shares_of}
@@ -16,7 +17,7 @@ highest_total = 1000000
 
 -- whether an amount may be split by a total
 abbrev pub is_total : ℕ → Bool
-is_total total = nat_le 1 total && nat_le total highest_total
+is_total total = is_in_range 1 highest_total total
 
 -- the total of the weights, if an amount may be split by it
 abbrev pub allowed_total : List ℕ → Option ℕ

@@ -25,6 +25,7 @@ impl Division {
         ensures { result.0 ≡ share self.amount.0 self.total before reached }
     {
         let cents = self.part(reached) - self.part(before);
+        // The sign by hand: `measures` keeps its own to itself, since that asks for a size that fits, and no public function asks anything.
         if self.amount.0 < 0 {
             SignedCents(-(cents as i64))
         } else {

@@ -17,65 +17,73 @@ impl Weighted for Weight {
 // What the places hold before a split.
 const UNTOUCHED: SignedCents = SignedCents(-7);
 
-// Splits an amount over three weights, and checks the shares.
-fn check_shares(rt: &impl Abort, amount: i64, weights: [u64; 3], shares: [i64; 3]) {
+// Splits an amount over three weights, and checks the shares, or that it is refused and the places are as they were.
+fn check(rt: &impl Abort, amount: i64, weights: [u64; 3], answer: Result<[i64; 3], Unsplit>) {
     let mut places = [UNTOUCHED; 3];
     assert_eq!(rt;
         split(SignedCents(amount), &weights.map(Weight), &mut places),
-        Ok(())
+        answer.map(|_| ())
     );
-    assert_eq!(rt; places, shares.map(SignedCents));
-}
-
-// Splits an amount over three weights, and checks that it is refused and that the places are as they were.
-fn check_refused(rt: &impl Abort, amount: i64, weights: [u64; 3], reason: Unsplit) {
-    let mut places = [UNTOUCHED; 3];
     assert_eq!(rt;
-        split(SignedCents(amount), &weights.map(Weight), &mut places),
-        Err(reason)
+        places,
+        answer.map_or([UNTOUCHED; 3], |shares| shares.map(SignedCents))
     );
-    assert_eq!(rt; places, [UNTOUCHED; 3]);
 }
 
 #[test]
 fn splits_by_weight(rt: HostRuntime) {
-    check_shares(&rt, 100, [3_333, 3_333, 3_334], [33, 33, 34]);
-    check_shares(&rt, -101, [5_000, 0, 5_000], [-50, 0, -51]);
-    check_shares(&rt, 0, [1, 2, 3], [0, 0, 0]);
-    check_shares(&rt, 5, [0, 1, 0], [0, 5, 0]);
-    check_shares(&rt, -5, [0, 0, 1], [0, 0, -5]);
-    check_shares(&rt, 1_000_000, [1, 499_999, 500_000], [1, 499_999, 500_000]);
-    check_shares(
+    check(&rt, 100, [3_333, 3_333, 3_334], Ok([33, 33, 34]));
+    check(&rt, -101, [5_000, 0, 5_000], Ok([-50, 0, -51]));
+    check(&rt, 0, [1, 2, 3], Ok([0, 0, 0]));
+    check(&rt, 5, [0, 1, 0], Ok([0, 5, 0]));
+    check(&rt, -5, [0, 0, 1], Ok([0, 0, -5]));
+    check(
+        &rt,
+        1_000_000,
+        [1, 499_999, 500_000],
+        Ok([1, 499_999, 500_000]),
+    );
+    check(
         &rt,
         100_000_000_000_000,
         [333_333, 333_333, 333_334],
-        [33_333_300_000_000, 33_333_300_000_000, 33_333_400_000_000],
+        Ok([33_333_300_000_000, 33_333_300_000_000, 33_333_400_000_000]),
     );
-    check_shares(
+    check(
         &rt,
         -100_000_000_000_000,
         [1, 1, 1],
-        [
+        Ok([
             -33_333_333_333_333,
             -33_333_333_333_333,
             -33_333_333_333_334,
-        ],
+        ]),
     );
 }
 
 #[test]
 fn refuses_for_the_first_reason(rt: HostRuntime) {
-    check_refused(&rt, 100_000_000_000_001, [0, 0, 0], Unsplit::AmountTooLarge);
-    check_refused(
+    check(
+        &rt,
+        100_000_000_000_001,
+        [0, 0, 0],
+        Err(Unsplit::AmountTooLarge),
+    );
+    check(
         &rt,
         -100_000_000_000_001,
         [1, 1, 1],
-        Unsplit::AmountTooLarge,
+        Err(Unsplit::AmountTooLarge),
     );
-    check_refused(&rt, i64::MIN, [1, 1, 1], Unsplit::AmountTooLarge);
-    check_refused(&rt, 100, [0, 0, 0], Unsplit::TotalOutOfRange);
-    check_refused(&rt, 100, [1_000_000, 0, 1], Unsplit::TotalOutOfRange);
-    check_refused(&rt, 100, [1, u64::MAX, u64::MAX], Unsplit::TotalOutOfRange);
+    check(&rt, i64::MIN, [1, 1, 1], Err(Unsplit::AmountTooLarge));
+    check(&rt, 100, [0, 0, 0], Err(Unsplit::TotalOutOfRange));
+    check(&rt, 100, [1_000_000, 0, 1], Err(Unsplit::TotalOutOfRange));
+    check(
+        &rt,
+        100,
+        [1, u64::MAX, u64::MAX],
+        Err(Unsplit::TotalOutOfRange),
+    );
     let mut places = [UNTOUCHED; 2];
     assert_eq!(rt;
         split(SignedCents(9), &[Weight(1); 3], &mut places),

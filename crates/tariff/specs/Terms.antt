@@ -1,6 +1,7 @@
 -- Which numbers enrol a unit, and on which terms.
 use Rattle.std.specs.Prelude.{ℕ, Bool, cond, ◌&&◌, Some, None, Option, option_and_then, ◌==◌}
-use Rattle.measures.specs.Measures.{is_class, is_day, is_rate, in_range}
+use Rattle.std.specs.Int.{is_in_range}
+use Rattle.measures.specs.Measures.{is_class, is_day, is_rate}
 use Rattle.tariff.specs.declared.terms.Energy.{Energy}
 use Rattle.tariff.specs.declared.terms.Energy.TheVariants.{NetMetered, Purchased, OnBillCredit}
 use Rattle.tariff.specs.declared.terms.Enrolment.{Enrolment}
@@ -27,7 +28,7 @@ most_watts = 5000000
 
 -- whether class, watts, qualifying day and rates of an enrolment are in range
 abbrev pub in_ranges : Particulars → Bool
-in_ranges p = is_class p.class.0 && (in_range 1 most_watts p.watts && (is_day p.qualified.0 && rates_in_range p))
+in_ranges p = is_class p.class.0 && (is_in_range 1 most_watts p.watts && (is_day p.qualified.0 && rates_in_range p))
 
 -- the terms that an enrolment gives, at its place and with its compensation
 abbrev pub terms_at : Enrolment → Place → Energy → Terms

@@ -19,7 +19,7 @@ pub struct Unit {
 
 impl Unit {
     /// Moves the standing by a notice, given by its number.
-    // Any number is taken, and no `Notice`: a wrong one is refused only after the unit is looked for.
+    // By its number, as the rule has it: a wrong number and a wrong day are refused alike, before the standing is looked at.
     pub(crate) fn notice(&mut self, number: u64, day: Day) -> Result<(), Refusal>
         ensures { NotedAs self.old number day result self.new }
     {

@@ -6,7 +6,7 @@ use measures::AccountNumber;
 
 impl AccountTable {
     /// Where the account of a number stands, if it is listed.
-    // Its place, and no reference from `iter_mut().find(..)`: of what a search that finds nothing leaves there is no proof.
+    // Its place, and no reference: of what a search by `iter_mut` leaves if it finds nothing there is no proof, and one look-up serves reading and writing.
     pub(super) fn find(&self, number: AccountNumber) -> Option<usize>
         ensures { Stands self.now number.0 result }
     {

@@ -30,7 +30,7 @@ impl BillingEnd for AccountTable {
             return false;
         };
         let reach = self.accounts[i].reach();
-        if !(1..=reach.0).contains(&cents.0) {
+        if !(Cents(1)..=reach).contains(&cents) {
             return false;
         }
         self.accounts[i].credit.0 += cents.0;

@@ -54,6 +54,7 @@ impl Draft {
     }
 
     /// Takes in a byte of the record.
+    #[tactic(auto, using(crate::proofs::Drafts::takes))]
     pub(crate) fn take_in(&mut self, byte: u8) -> Result<Event, Fault>
         ensures { Takes self.old byte result self.new }
     {

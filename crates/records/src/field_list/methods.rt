@@ -22,6 +22,7 @@ impl FieldList {
     }
 
     /// Back to one empty field.
+    // Not `*self = FieldList::new()`: that moves a whole kilobyte where two lengths are set to 0.
     pub(crate) fn clear(&mut self)
         ensures fields { (complete self.new ≡ []) × (current self.new ≡ []) }
         ensures room { (self.new.bytes.items ≡ []) × (self.new.ends.items ≡ []) }
@@ -31,6 +32,7 @@ impl FieldList {
     }
 
     /// One byte more in the last field.
+    #[tactic(auto, using(crate::proofs::Laid::first_fields_add))]
     pub(crate) fn add(&mut self, byte: u8)
         requires { array_vec_len self.old.bytes < 1024 }
         ensures before { complete self.new ≡ complete self.old }
@@ -41,6 +43,7 @@ impl FieldList {
     }
 
     /// Completes the last field, and starts an empty one after it.
+    #[tactic(auto, using(crate::proofs::Laid::first_fields_separate, crate::proofs::Laid::ordered_separate, crate::proofs::Laid::inside_separate))]
     pub(crate) fn separate(&mut self)
         requires { array_vec_len self.old.ends < 39 }
         ensures before { complete self.new ≡ complete self.old ++ (current self.old ∷ []) }
@@ -59,6 +62,7 @@ impl FieldList {
     }
 
     /// Where the field at `k` ends.
+    #[tactic(auto, using(crate::proofs::Laid::nth_last, crate::proofs::Laid::nth_complete, std::proofs::lemmas::Slice::between_to_end))]
     fn end(&self, k: usize) -> usize
         requires { k ≤ array_vec_len self.now.ends }
         ensures within { (start_of self.now.ends.items k ≤ result) × (result ≤ array_vec_len self.now.bytes) }
@@ -101,6 +105,7 @@ impl FieldList {
     }
 
     /// The field at a place, counted from 0, if there is one.
+    #[tactic(auto, using(crate::proofs::Laid::nth_beyond))]
     pub fn field(&self, place: usize) -> Option<&[u8]>
         ensures { option_map (λ x. x.now) result ≡ slice_get (fields_of self.now) place }
     {

@@ -7,7 +7,7 @@ use crate::total::Total;
 use measures::{Cents, Refusal};
 
 /// The most cents that are entered at once.
-const MOST_AT_ONCE: u64 = 100_000_000_000;
+const MOST_AT_ONCE: Cents = Cents(100_000_000_000);
 
 impl Recovery {
     /// Nothing entered yet.
@@ -27,7 +27,7 @@ impl Recovery {
         ensures { Enters self.old kind amount.0 result self.new }
     {
         let entry = Entry::try_from(kind)?;
-        if amount.0 > MOST_AT_ONCE {
+        if amount > MOST_AT_ONCE {
             return Err(Refusal::OutOfRange);
         }
         match entry {

@@ -81,12 +81,11 @@ impl Units {
         ensures { Shows (unit_of self.now unit.0) result }
     {
         let own = self.enrolled(unit)?;
-        let Some(received) = own.waiting else {
-            return Ok(None);
-        };
-        Ok(Some(Received {
-            day: received.day,
-            form: Form::try_from(received.form).unwrap(),
-        }))
+        Ok(
+            own.waiting.map(|received| Received {
+                day: received.day,
+                form: Form::try_from(received.form).unwrap(),
+            }),
+        )
     }
 }

@@ -1,4 +1,4 @@
--- The fields are text if each of them is.
+-- The fields are text if each of them is: the test is of references, and the word of the bytes that they point to.
 use Rattle.std.proofs.Common.{[], refl, rules}
 use Rattle.std.proofs.lemmas.List.Recursion.{and_is}
 use Rattle.std.specs.List.{list_all}
