@@ -7,6 +7,7 @@ use crate::weighing::WHOLE_WEIGHT;
 use measures::{AccountNumber, Row};
 use std::test::Fail;
 
+// A line of these numbers. The tests of the book have the same helper, since crates share no test code.
 fn line(account: u64, weight: u64) -> FormLine {
     FormLine {
         account: AccountNumber(account),

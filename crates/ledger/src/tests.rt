@@ -12,7 +12,7 @@ fn refused(answer: Answer) -> u8 {
     Row::from(answer).refusal
 }
 
-// An enrolment of these numbers.
+// An enrolment of these numbers, right or wrong ones.
 fn given(place: u64, class: u64, watts: u64, day: u64, adder: u64) -> Enrolment {
     Enrolment {
         place,
@@ -37,6 +37,7 @@ fn with_a_unit() -> Book {
     book
 }
 
+// A line of these numbers. The tests of the forms have the same helper, since crates share no test code.
 fn line(account: u64, weight: u64) -> FormLine {
     FormLine {
         account: AccountNumber(account),

@@ -10,6 +10,7 @@ use arrayvec::ArrayVec;
 
 /// The fields of one record: their bytes one after the other, and where each field but the last ends.
 // One buffer and the ends in it, and no list of texts: a record is kept in 1,024 bytes, and nothing here is allocated.
+// No `impl Model`: its value would be the fields and how they lie, which is the struct.
 #[derive(Drop)]
 pub struct FieldList {
     bytes: ArrayVec<u8, MAX_BYTES>,
