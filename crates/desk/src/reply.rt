@@ -62,10 +62,7 @@ impl Reply {
     fn shown(self) -> &'static [u8]
         ensures { result.now ≡ word_shown self.word }
     {
-        match self.word {
-            Some(word) => word.name(),
-            None => b"?",
-        }
+        self.word.map_or(b"?".as_slice(), |word| word.name())
     }
 }
 

@@ -10,6 +10,7 @@ use Rattle.forms.specs.Rows.{lawful, row_of}
 use Rattle.forms.specs.declared.line.FormLine.{FormLine}
 use Rattle.forms.specs.declared.row.FormRow.{FormRow}
 use Rattle.tariff.specs.Standings.{notice_in, moved}
+use Rattle.tariff.specs.declared.standing.Notice.{Notice}
 use Rattle.tariff.specs.declared.standing.Standing.{Standing}
 use Rattle.tariff.specs.declared.standing.Standing.TheVariants.{Waiting}
 use Rattle.tariff.specs.declared.terms.Terms.{Terms}
@@ -52,9 +53,11 @@ against_noticing u number day =
     unless (is_some (notice_in number) && is_day day.0) OutOfRange (
     unless (is_some (next_standing u number day)) WrongStanding None)
 
--- what a notice to an enrolled unit answers and leaves
-abbrev pub NotedAs : {A : Type 0} → Enrolled → ℕ → Day → Result A Refusal → Enrolled → Type 0
-NotedAs u number day r u' = Answered (against_noticing u number day) r u u' (λ _. u' ≡ noticed number day u)
+-- what a notice to an enrolled unit answers and leaves: refused on a day out of range, then where the standing does not allow it
+abbrev pub Noted : {A : Type 0} → Enrolled → Notice → Day → Result A Refusal → Enrolled → Type 0
+Noted u notice day r u' =
+    Answered (unless (is_day day.0) OutOfRange (unless (is_some (moved u.standing notice day)) WrongStanding None)) r u u'
+    (λ _. u' ≡ with_standing (unwrap_or (moved u.standing notice day) u.standing) u)
 
 -- the unit with a form of these lines, received on that day, waiting in place of any other
 abbrev pub with_waiting : Day → List FormLine → Enrolled → Enrolled

@@ -1,5 +1,5 @@
 // One enrolled unit, and what a notice does to it.
-ghost use Rattle.units.specs.Unit.{NotedAs};
+ghost use Rattle.units.specs.Unit.{Noted};
 
 use crate::waiting::Received;
 use forms::FormRow;
@@ -18,12 +18,10 @@ pub struct Unit {
 }
 
 impl Unit {
-    /// Moves the standing by a notice, given by its number.
-    // By its number, as the rule has it: a wrong number and a wrong day are refused alike, before the standing is looked at.
-    pub(crate) fn notice(&mut self, number: u64, day: Day) -> Result<(), Refusal>
-        ensures { NotedAs self.old number day result self.new }
+    /// Moves the standing by a notice.
+    pub(crate) fn notice(&mut self, notice: Notice, day: Day) -> Result<(), Refusal>
+        ensures { Noted self.old notice day result self.new }
     {
-        let notice = Notice::try_from(number)?;
         if !day.is_in_range() {
             return Err(Refusal::OutOfRange);
         }

@@ -19,10 +19,8 @@ impl BillingEnd for AccountTable {
     ghost meaning = { posts_mean };
 
     fn credit(&self, account: AccountNumber) -> Cents {
-        match self.find(account) {
-            Some(i) => self.accounts[i].credit,
-            None => Cents(0),
-        }
+        self.find(account)
+            .map_or(Cents(0), |i| self.accounts[i].credit)
     }
 
     fn post(&mut self, account: AccountNumber, cents: Cents) -> bool {

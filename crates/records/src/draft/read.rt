@@ -22,7 +22,7 @@ impl Draft {
     }
 
     /// Begins the next record.
-    // Not `*self = Draft::new()`: that moves a whole kilobyte where two lengths, the mode and a count are set.
+    // No plainer as `*self = Draft::new()`, which makes and moves a whole kilobyte where two lengths, the mode and a count are set.
     #[tactic(auto, using(crate::proofs::Drafts::under_way_start))]
     pub(crate) fn clear(&mut self)
         ensures { Holds self.new [] }

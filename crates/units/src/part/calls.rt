@@ -8,7 +8,7 @@ use crate::unit::Unit;
 use crate::waiting::{Received, WaitingForm};
 use forms::{Form, FormLine};
 use measures::{Day, Ranged, Refusal, UnitNumber};
-use tariff::{Enrolment, Standing, Terms};
+use tariff::{Enrolment, Notice, Standing, Terms};
 
 impl Units {
     /// No unit enrolled.
@@ -45,7 +45,7 @@ impl Units {
         ensures { Notices self.old unit.0 number day result self.new }
     {
         let mut own = self.enrolled(unit)?;
-        own.notice(number, day)?;
+        own.notice(Notice::try_from(number)?, day)?;
         self.put(unit, own);
         Ok(())
     }
