@@ -18,14 +18,23 @@ pub count_within : (row : FormRow) → lawful row ≡ true → row.count ≤ mos
 unfolding lawful
 count_within row h = within row.count (and_parts (is_line_count row.count) (is_filled row) h).0
 
+-- the lines of a row make a form, and nothing stands past them
+abbrev pub is_form : FormRow → Bool
+is_form row = weights_lawful (lines_of row) && (accounts_lawful (lines_of row) && list_all is_blank (past_lines row))
+
+-- the lines of a lawful row make a form
+pub lines_are_lawful : (row : FormRow) → lawful row ≡ true → (weights_lawful (lines_of row) ≡ true) × (accounts_lawful (lines_of row) ≡ true)
+unfolding lawful
+lines_are_lawful row h =
+    let filled = (and_parts (is_line_count row.count) (is_filled row) h).1 in
+    let by_lines = (and_parts (eqb (length row.lines) most_lines) (is_form row) filled).1 in
+    let by_accounts = and_parts (weights_lawful (lines_of row)) _ by_lines in
+    (by_accounts.0, (and_parts (accounts_lawful (lines_of row)) _ by_accounts.1).0)
+
 -- a test that is part of the next need not be made
 made_twice : (a b c : Bool) → (a && ((a && b) && c)) ≡ ((a && b) && c)
 made_twice true b c = refl
 made_twice false b c = refl
-
--- the lines of a row make a form, and nothing stands past them
-abbrev pub is_form : FormRow → Bool
-is_form row = weights_lawful (lines_of row) && (accounts_lawful (lines_of row) && list_all is_blank (past_lines row))
 
 -- a row of 16 places is lawful exactly if it has no more lines than places and they make a form
 pub lawful_by : (row : FormRow) → length row.lines ≡ most_lines → row.count ≤ most_lines → lawful row ≡ is_form row

@@ -1,7 +1,7 @@
 // Why an amount cannot be split, and the total of the weights if it can.
-ghost use Rattle.std.specs.Prelude.{◌≡◌, map};
+ghost use Rattle.std.specs.Prelude.{◌≡◌, ◌+◌, ◌<◌, map, MatchOption};
 ghost use Rattle.split.specs.Divisions.{Allows};
-ghost use Rattle.split.specs.Splitting.{allowed_total};
+ghost use Rattle.split.specs.Splitting.{allowed_total, highest_total};
 
 use crate::division::Division;
 use crate::weighted::Weighted;
@@ -44,12 +44,21 @@ impl Division {
     }
 }
 
-/// The total of the weights of some entries, if it is one that a split may have.
+/// The total of the weights of some entries, if it is one that a split may have. The sum stops where it would pass the highest.
 pub fn total_weight<T: Weighted>(entries: &[T]) -> Option<u64>
     ensures { result ≡ allowed_total (map T.weighs entries.now) }
 {
     entries
         .iter()
-        .try_fold(0, |total: u64, entry| total.checked_add(entry.weight()))
+        .try_fold(0, |total, entry| with_weight(total, entry.weight()))
         .filter(|total| (1..=HIGHEST_TOTAL).contains(total))
+}
+
+// The total with one weight more, unless that passes the highest.
+fn with_weight(total: u64, weight: u64) -> Option<u64>
+    ensures { MatchOption result (highest_total < total + weight) (λ reached. reached ≡ total + weight) }
+{
+    total
+        .checked_add(weight)
+        .filter(|reached| *reached <= HIGHEST_TOTAL)
 }
