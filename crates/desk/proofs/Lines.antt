@@ -3,10 +3,10 @@ use Rattle.std.proofs.Common.{◌≡◌, ℕ, ◌≤◌, true, List, [], ◌∷�
 use Rattle.std.proofs.lemmas.List.{length-append, take_at}
 use Rattle.std.specs.List.{list_all}
 use Rattle.std.proofs.lemmas.Option.{none-some}
-use Rattle.std.proofs.lemmas.Bool.{and_parts, and_from}
-use Rattle.std.proofs.lemmas.Bool.Decides.{nat_tests}
-use Rattle.records.specs.Grammar.{plain_byte, text_byte, Record}
+use Rattle.std.proofs.lemmas.Bool.{and_from}
+use Rattle.records.specs.Grammar.{plain_byte, Record}
 use Rattle.records.proofs.Lengths.{length_spelled_plain, length_whole}
+use Rattle.records.proofs.Measures.{plain_is_text}
 use Rattle.records.proofs.Reasons.{writable}
 use Rattle.records.specs.Writing.{spelled, comma_spelled, line, whole, all_text, unwritable, Refused, Written, Wrote}
 use Rattle.records.specs.declared.writer.Unwritable.{Unwritable}
@@ -29,19 +29,11 @@ pub record Spells (line word refusal first second : List ℕ) : Type 0 where
   pub exact : line ≡ whole (word ∷ (refusal ∷ (first ∷ (second ∷ []))))
   pub reads_back : (rest : List ℕ) → Record (line ++ rest) (word ∷ (refusal ∷ (first ∷ (second ∷ [])))) rest
 
--- a plain field is text
-plain_text : (field : List ℕ) → list_all plain_byte field ≡ true → list_all text_byte field ≡ true
-plain_text [] h = refl
-plain_text (b ∷ field) h =
-    let p = and_parts (plain_byte b) (list_all plain_byte field) h in
-    let t : text_byte b ≡ true = let q = p.0 in grind (arith, nat_tests) in
-    and_from (text_byte b) (list_all text_byte field) t (plain_text field p.1)
-
 pub line_writable : (word refusal first second : List ℕ) → length word ≤ 8 → list_all plain_byte word ≡ true → Short refusal → Short first → Short second
     → unwritable (word ∷ (refusal ∷ (first ∷ (second ∷ [])))) 80 ≡ None
 line_writable w r f s few plain hr hf hs =
     let text : all_text (w ∷ (r ∷ (f ∷ (s ∷ [])))) ≡ true =
-    and_from _ _ (plain_text w plain) (and_from _ _ (plain_text r hr.plain) (and_from _ _ (plain_text f hf.plain) (and_from _ _ (plain_text s hs.plain) refl))) in
+    and_from _ _ (plain_is_text w plain) (and_from _ _ (plain_is_text r hr.plain) (and_from _ _ (plain_is_text f hf.plain) (and_from _ _ (plain_is_text s hs.plain) refl))) in
     let short : length (line (w ∷ (r ∷ (f ∷ (s ∷ []))))) ≤ 71 =
     omega (
       arith,
@@ -98,7 +90,7 @@ word_plain None bytes e = ap (list_all plain_byte) e
 word_plain (Some Account) bytes e = ap (list_all plain_byte) e
 
 -- every numeral is short and plain
-pub short_numeral : (d : Decimal) → Short d.text.bytes
+pub short_numeral : (d : Decimal) → Short (drop d.start d.bytes)
 short_numeral d = record { few = d.few; plain = d.plain }
 
 pub shows_reply : (reply : Reply) (row : Row) (line word refusal first second : List ℕ) → Spells line word refusal first second → row ≡ row_of reply.answer

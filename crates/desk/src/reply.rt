@@ -53,8 +53,8 @@ impl Reply {
         ];
         let mut places = [0; LINE_BYTES];
         let len = write_record(&fields, &mut places).unwrap();
-        let mut bytes = ArrayVec::from(places);
-        bytes.truncate(len);
+        let mut bytes = ArrayVec::new();
+        bytes.try_extend_from_slice(&places[..len]).unwrap();
         Line { bytes }
     }
 

@@ -8,5 +8,7 @@ pub mod Drafts
 pub mod Readers
 pub mod Unique
 pub mod Lengths
+pub mod Measures
+pub mod Puts
 pub mod Reasons
 pub mod ReadsBack

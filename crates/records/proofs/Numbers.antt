@@ -1,7 +1,8 @@
 -- Numerals of numbers: their digits, their length, and that they read back as the number.
-use Rattle.std.proofs.Common.{◌≡◌, ℕ, suc, ◌+◌, ◌-◌, ◌*◌, ◌^◌, ◌<◌, ◌≤◌, true, cond, List, [], ◌∷◌, length, ℤ, pos, negsuc, neg_ℤ, Some, None, decimal, Option, sym, refl, ap, arith, rules}
+use Rattle.std.proofs.Common.{◌≡◌, ℕ, suc, ◌+◌, ◌-◌, ◌*◌, ◌^◌, ◌<◌, ◌≤◌, true, false, cond, List, [], ◌∷◌, ◌++◌, length, drop, set, ℤ, pos, negsuc, neg_ℤ, nat_abs, Some, None, decimal, Option, sym, refl, ap, ◌∙◌, arith, rules}
 use native.Mathlib.Nat.{pow-le-pow_right}
-use lib.Signed.{mag}
+use lib.Signed.{mag, le_z}
+use Rattle.std.proofs.lemmas.List.{drop-set, append-nil}
 use Rattle.std.specs.Fmt.{signed_decimal}
 use Rattle.std.proofs.lemmas.Bool.{and_from, and_parts}
 use Rattle.std.proofs.lemmas.Bool.Decides.{nat_tests}
@@ -110,3 +111,32 @@ writes_signed_decimal z small = record {
 
 pub writes_from_same : (z : ℤ) (bs : List ℕ) → mag z < 2 ^ 63 → bs ≡ signed_decimal z → Writes z bs
 writes_from_same z bs small same = rw same (writes_signed_decimal z small)
+
+-- the digits of a size, with a minus sign before them or not, are what is printed of the number
+printed_natural : (z : ℤ) → le_z (pos 0) z ≡ true → decimal (nat_abs z) ≡ signed_decimal z
+printed_natural (pos n) natural = refl
+printed_natural (negsuc n) natural = absurd (search rules)
+
+printed_negative : (z : ℤ) → le_z (pos 0) z ≡ false → 45 ∷ decimal (nat_abs z) ≡ signed_decimal z
+printed_negative (pos n) negative = absurd (search rules)
+printed_negative (negsuc n) negative = refl
+
+short_size : (z : ℤ) → mag z < 2 ^ 63 → length (decimal (nat_abs z)) ≤ 19
+short_size (pos n) small = length-decimal-le 19 n (omega arith) (omega arith) (omega arith)
+short_size (negsuc n) small = length-decimal-le 19 (suc n) (omega arith) (omega arith) (omega arith)
+
+-- the digits of n, which is the size of z, stand in a place from i to its end
+module _ (z : ℤ) (i n : ℕ) (small : mag z < 2 ^ 63) (size : n ≡ nat_abs z) where
+  pub room_for_sign : i + length (decimal n) ≡ 20 → 1 ≤ i
+  room_for_sign ends = omega (arith, ends, short_size z small, ap (λ m. length (decimal m)) size)
+
+  -- they are the numeral of a number that is not negative
+  pub writes_natural : (xs : List ℕ) → le_z (pos 0) z ≡ true → drop i xs ≡ decimal n ++ [] → Writes z (drop i xs)
+  writes_natural xs natural digits = writes_from_same z _ small (digits ∙ append-nil _ ∙ ap decimal size ∙ printed_natural z natural)
+
+  -- and with a sign before them that of a negative number
+  pub writes_negative : (xs : List ℕ) → le_z (pos 0) z ≡ false → 1 ≤ i → i ≤ length xs → drop i xs ≡ decimal n ++ [] → Writes z (drop (i - 1) (set xs (i - 1) 45))
+  writes_negative xs negative room within digits =
+      let next : i - 1 + 1 ≡ i = omega arith in
+      let sign = drop-set xs (i - 1) 45 (omega arith) ∙ ap (λ k. 45 ∷ drop k xs) next in
+      writes_from_same z _ small (sign ∙ ap (λ ds. 45 ∷ ds) (digits ∙ append-nil _ ∙ ap decimal size) ∙ printed_negative z negative)

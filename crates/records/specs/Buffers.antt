@@ -1,14 +1,22 @@
--- The line of a record: that bytes are added to it, up to the limit of its bytes, and that it is copied into a buffer.
-use Rattle.std.specs.Prelude.{◌≡◌, ℕ, ◌+◌, ◌<◌, ◌≤◌, List, ◌∷◌, ◌++◌, length, drop, Ok, Err, Result}
-use Rattle.records.specs.declared.writer.Unwritable.{Unwritable}
-use Rattle.records.specs.declared.writer.Unwritable.TheVariants.{TooLong, NoRoom}
+-- How far the writer counts the bytes of a line, and a buffer that bytes are written into, from a place on.
+use Rattle.std.specs.Prelude.{◌≡◌, ℕ, cond, ◌+◌, List, ◌++◌, length, take, drop, Some, None, Option, nat_le}
+use Rattle.std.specs.List.{list_all}
+use Rattle.records.specs.Grammar.{text_byte}
+use Rattle.records.specs.Writing.{all_text, line, spelled}
 
--- what it is answered to add bytes to a line, and what the line is then: they stand after it, or they pass the limit
-abbrev pub Adds : List ℕ → List ℕ → Result (Unit {0}) Unwritable → List ℕ → Type 0
-Adds before bytes (Ok _) after = after ≡ before ++ bytes
-Adds before bytes (Err why) after = (why ≡ TooLong) × (1024 < length (before ++ bytes))
+-- a length as far as the writer counts it: past the limit of 1,024 bytes it is one more than that
+abbrev pub counted : ℕ → ℕ
+counted len = cond (nat_le len 1024) len 1025
 
--- what it is answered to copy a line and its CRLF to the start of a buffer, and what the buffer is then
-abbrev pub Copies : List ℕ → List ℕ → Result ℕ Unwritable → List ℕ → Type 0
-Copies line before (Ok n) after = (n ≡ length line + 2) × (n ≤ length before) × (after ≡ line ++ (13 ∷ (10 ∷ drop n before)))
-Copies line before (Err why) after = (why ≡ NoRoom) × (length before < length line + 2) × (after ≡ before)
+-- the bytes that a field takes as it is written, as far as they are counted, if it is text
+abbrev pub measured : List ℕ → Option ℕ
+measured field = cond (list_all text_byte field) (Some (counted (length (spelled field)))) None
+
+-- the bytes that a record's line takes, as far as they are counted, if each field is text
+abbrev pub line_measured : List (List ℕ) → Option ℕ
+line_measured fields = cond (all_text fields) (Some (counted (length (line fields)))) None
+
+-- bytes were written from a place on: `next` is the place after them, what stands before the place and from `next` on is as it was, and the buffer is as long
+abbrev pub Put : List ℕ → ℕ → List ℕ → ℕ → List ℕ → Type 0
+Put before place bytes next after =
+    (next ≡ place + length bytes) × (take next after ≡ take place before ++ bytes) × (drop next after ≡ drop next before) × (length after ≡ length before)

@@ -1,11 +1,10 @@
 // Reads the number in a field, and writes a number as a field.
-ghost use Rattle.std.specs.Prelude.{◌≡◌, ◌≤◌, true, length, if◌then◌else◌, Some, None};
+ghost use Rattle.std.specs.Prelude.{◌≡◌, ◌≤◌, true, length, drop, if◌then◌else◌, Some, None};
 ghost use Rattle.std.specs.List.{list_all};
 ghost use Rattle.records.specs.Grammar.{plain_byte};
 ghost use Rattle.records.specs.Numbers.{all_digits, value_of, number_in, Writes};
 
-use arrayvec::ArrayString;
-use itoa::Buffer;
+use itoa::write_digits;
 
 // The most digits that a number in a field may have.
 const MOST_DIGITS: usize = 15;
@@ -37,28 +36,38 @@ fn value(field: &[u8]) -> Option<u64>
 }
 
 /// The numeral of a number, in a place of its own.
+// It stands at the end of the place, since it is written from its last digit to its first.
 #[derive(Clone, Copy)]
 pub struct Decimal {
-    text: ArrayString<LONGEST>,
-    ghost few: { length text.bytes ≤ 20 },
-    ghost plain: { list_all plain_byte text.bytes ≡ true },
+    bytes: [u8; LONGEST],
+    start: usize,
+    ghost within: { start ≤ 20 },
+    ghost few: { length (drop start bytes) ≤ 20 },
+    ghost plain: { list_all plain_byte (drop start bytes) ≡ true },
 }
 
 impl Decimal {
     /// The numeral of a number.
+    // Straight into the place, as the text of a `Buffer` would have to be copied, and inlined, as most numbers of answers are a known 0.
+    #[inline]
     pub fn new(value: i64) -> Decimal
-        ensures { Writes value result.text.bytes }
+        ensures { Writes value (drop result.start result.bytes) }
     {
-        let mut text = ArrayString::new();
-        text.push_str(Buffer::new().format(value));
-        Decimal { text }
+        let mut bytes = [b'0'; LONGEST];
+        let start = write_digits(value.unsigned_abs(), &mut bytes, LONGEST);
+        if value >= 0 {
+            return Decimal { bytes, start };
+        }
+        let start = start - 1;
+        bytes[start] = b'-';
+        Decimal { bytes, start }
     }
 
     /// The bytes of the numeral.
     pub fn as_bytes(&self) -> &[u8]
-        ensures { result.now ≡ self.now.text.bytes }
+        ensures { result.now ≡ drop self.now.start self.now.bytes }
     {
-        self.text.as_bytes()
+        &self.bytes[self.start..]
     }
 }
 

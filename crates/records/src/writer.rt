@@ -1,14 +1,15 @@
 // Writes one record into a caller's buffer.
-ghost use Rattle.std.specs.Prelude.{◌≡◌, ◌<◌, ◌≤◌, [], ◌∷◌, length, IfOk, IfErr};
-ghost use Rattle.arrayvec.specs.ArrayVec.{array_vec_len};
-ghost use Rattle.records.specs.Buffers.{Adds, Copies};
+ghost use Rattle.std.specs.Prelude.{◌≡◌, ◌+◌, ◌≤◌, [], ◌∷◌, length};
+ghost use Rattle.records.specs.Buffers.{Put, line_measured, measured};
 ghost use Rattle.std.specs.List.{list_all};
 ghost use Rattle.records.specs.Grammar.{doubled, in_quotes, plain_byte, text_byte};
-ghost use Rattle.records.specs.Writing.{Wrote, all_text, bytes_of, comma_spelled, line, spelled};
+ghost use Rattle.records.specs.Writing.{Wrote, bytes_of, comma_spelled, spelled, whole};
 
 use super::bytes;
 use super::limits::{MAX_BYTES, MAX_FIELDS};
-use arrayvec::ArrayVec;
+
+// What is counted of a line that is longer than a record may be.
+const PAST_LIMIT: usize = MAX_BYTES + 1;
 
 /// Why a record cannot be written; the first that applies, in this order, is given.
 #[derive(Clone, Copy, PartialEq, Eq, Debug)]
@@ -38,119 +39,126 @@ fn is_text(field: &[u8]) -> bool
     field.iter().all(|b| bytes::is_text(*b))
 }
 
-// Whether every field is text.
-fn are_text(fields: &[&[u8]]) -> bool
-    ensures { result ≡ all_text (bytes_of fields.now) }
+// How many bytes a field takes in quotes: two for each double quote in it and one for each other byte, between the two that enclose it.
+fn quoted_len(field: &[u8]) -> usize
+    requires { length field.now ≤ 1024 }
+    ensures { result ≡ length (in_quotes field.now) }
 {
-    fields.iter().all(|field| is_text(field))
+    let mut len = 2;
+    for b in field {
+        len += if *b == b'"' { 2 } else { 1 };
+    }
+    len
 }
 
-// The line of a record as far as it is put together, the CRLF after it not counted.
-#[derive(Drop)]
-struct Line {
-    bytes: ArrayVec<u8, MAX_BYTES>,
-    ghost short: { array_vec_len bytes ≤ 1024 },
+// How many bytes a field takes as it is written, counted no further than one past the limit, or `None` if it is no text.
+// One walk over the bytes of a plain field says both.
+fn spelled_len(field: &[u8]) -> Option<usize>
+    ensures { result ≡ measured field.now }
+{
+    if field.len() > MAX_BYTES {
+        return is_text(field).then_some(PAST_LIMIT);
+    }
+    if is_plain(field) {
+        return Some(field.len());
+    }
+    if !is_text(field) {
+        return None;
+    }
+    Some(quoted_len(field).min(PAST_LIMIT))
 }
 
-impl Line {
-    // The line of a record of a first field and the others.
-    fn new(first: &[u8], rest: &[&[u8]]) -> Result<Line, Unwritable>
-        ensures made { IfOk result (λ l. l.bytes.items ≡ line (first.now ∷ bytes_of rest.now)) }
-        ensures past { IfErr result (λ why. (why ≡ Unwritable.TooLong) × (1024 < length (line (first.now ∷ bytes_of rest.now)))) }
-    {
-        let mut line = Line {
-            bytes: ArrayVec::new(),
-        };
-        line.add_field(first)?;
-        for field in rest {
-            line.add_next(field)?;
-        }
-        Ok(line)
+// How many bytes the line of a record of a first field and the others takes, counted no further than one past the limit, or `None` if a field is no text.
+fn line_len(first: &[u8], rest: &[&[u8]]) -> Option<usize>
+    ensures { result ≡ line_measured (first.now ∷ bytes_of rest.now) }
+{
+    let mut len = spelled_len(first)?;
+    for field in rest {
+        len = (len + 1 + spelled_len(field)?).min(PAST_LIMIT);
     }
+    Some(len)
+}
 
-    // Adds a byte.
-    fn add(&mut self, byte: u8) -> Result<(), Unwritable>
-        ensures { Adds self.old.bytes.items (byte ∷ []) result self.new.bytes.items }
-    {
-        self.add_all(&[byte])
-    }
+// Writes bytes from a place on, and gives the place after them.
+fn put(out: &mut [u8], place: usize, bytes: &[u8]) -> usize
+    requires { place + length bytes.now ≤ length out.old }
+    ensures { Put out.old place bytes.now result out.new }
+{
+    let next = place + bytes.len();
+    out[place..next].copy_from_slice(bytes);
+    next
+}
 
-    // Adds bytes as they are.
-    fn add_all(&mut self, bytes: &[u8]) -> Result<(), Unwritable>
-        ensures { Adds self.old.bytes.items bytes.now result self.new.bytes.items }
-    {
-        self.bytes
-            .try_extend_from_slice(bytes)
-            .map_err(|_| Unwritable::TooLong)
+// Writes a byte that stands between quotes.
+fn put_doubled(out: &mut [u8], place: usize, byte: u8) -> usize
+    requires { place + length (doubled (byte ∷ [])) ≤ length out.old }
+    ensures { Put out.old place (doubled (byte ∷ [])) result out.new }
+{
+    match byte {
+        b'"' => put(out, place, b"\"\""),
+        _ => put(out, place, &[byte]),
     }
+}
 
-    // Adds a byte that stands between quotes.
-    fn add_doubled(&mut self, byte: u8) -> Result<(), Unwritable>
-        ensures { Adds self.old.bytes.items (doubled (byte ∷ [])) result self.new.bytes.items }
-    {
-        match byte {
-            b'"' => self.add_all(b"\"\""),
-            _ => self.add(byte),
-        }
+// Writes a field in quotes.
+fn put_quoted(out: &mut [u8], place: usize, field: &[u8]) -> usize
+    requires { place + length (in_quotes field.now) ≤ length out.old }
+    ensures { Put out.old place (in_quotes field.now) result out.new }
+{
+    let mut next = put(out, place, b"\"");
+    for b in field {
+        next = put_doubled(out, next, *b);
     }
+    put(out, next, b"\"")
+}
 
-    // Adds a field in quotes.
-    fn add_quoted(&mut self, field: &[u8]) -> Result<(), Unwritable>
-        ensures { Adds self.old.bytes.items (in_quotes field.now) result self.new.bytes.items }
-    {
-        self.add(b'"')?;
-        for b in field {
-            self.add_doubled(*b)?;
-        }
-        self.add(b'"')
+// Writes a field, in quotes only where it must be.
+fn put_field(out: &mut [u8], place: usize, field: &[u8]) -> usize
+    requires { place + length (spelled field.now) ≤ length out.old }
+    ensures { Put out.old place (spelled field.now) result out.new }
+{
+    if is_plain(field) {
+        put(out, place, field)
+    } else {
+        put_quoted(out, place, field)
     }
+}
 
-    // Adds a field, in quotes only where it must be.
-    fn add_field(&mut self, field: &[u8]) -> Result<(), Unwritable>
-        ensures { Adds self.old.bytes.items (spelled field.now) result self.new.bytes.items }
-    {
-        if is_plain(field) {
-            self.add_all(field)
-        } else {
-            self.add_quoted(field)
-        }
-    }
+// Writes a field after another one.
+fn put_next(out: &mut [u8], place: usize, field: &[u8]) -> usize
+    requires { place + length (comma_spelled field.now) ≤ length out.old }
+    ensures { Put out.old place (comma_spelled field.now) result out.new }
+{
+    let next = put(out, place, b",");
+    put_field(out, next, field)
+}
 
-    // Adds a field after another one.
-    fn add_next(&mut self, field: &[u8]) -> Result<(), Unwritable>
-        ensures { Adds self.old.bytes.items (comma_spelled field.now) result self.new.bytes.items }
-    {
-        self.add(b',')?;
-        self.add_field(field)
+// Writes the line of a record of a first field and the others, and the CRLF after it.
+fn put_record(out: &mut [u8], first: &[u8], rest: &[&[u8]]) -> usize
+    requires { length (whole (first.now ∷ bytes_of rest.now)) ≤ length out.old }
+    ensures { Put out.old 0 (whole (first.now ∷ bytes_of rest.now)) result out.new }
+{
+    let mut next = put_field(out, 0, first);
+    for field in rest {
+        next = put_next(out, next, field);
     }
-
-    // Copies the line with its CRLF to the start of a buffer, and gives how many bytes that took.
-    fn copy_to(&self, out: &mut [u8]) -> Result<usize, Unwritable>
-        ensures { Copies self.now.bytes.items out.old result out.new }
-    {
-        let len = self.bytes.len();
-        let end = len + 2;
-        if out.len() < end {
-            return Err(Unwritable::NoRoom);
-        }
-        out[..len].copy_from_slice(self.bytes.as_slice());
-        out[len..end].copy_from_slice(b"\r\n");
-        Ok(end)
-    }
+    put(out, next, b"\r\n")
 }
 
 /// Writes one record with its CRLF at the start of `out`, and gives how many bytes that took.
+// Its line is measured first, so that a refusal leaves `out` alone, and then written where it is to stand: put together in a buffer of its own, a short line took up to three times as long.
 pub fn write_record(fields: &[&[u8]], out: &mut [u8]) -> Result<usize, Unwritable>
     ensures { Wrote (bytes_of fields.now) out.old result out.new }
 {
     let (first, rest) = fields.split_first().ok_or(Unwritable::NoField)?;
-    if !are_text(fields) {
-        return Err(Unwritable::NotText);
-    }
-    if fields.len() > MAX_FIELDS {
+    let len = line_len(first, rest).ok_or(Unwritable::NotText)?;
+    if fields.len() > MAX_FIELDS || len > MAX_BYTES {
         return Err(Unwritable::TooLong);
     }
-    Line::new(first, rest)?.copy_to(out)
+    if out.len() < len + 2 {
+        return Err(Unwritable::NoRoom);
+    }
+    Ok(put_record(out, first, rest))
 }
 
 #[cfg(test)]

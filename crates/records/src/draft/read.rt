@@ -22,7 +22,7 @@ impl Draft {
     }
 
     /// Begins the next record.
-    // No plainer as `*self = Draft::new()`, which makes and moves a whole kilobyte where two lengths, the mode and a count are set.
+    // No plainer as `*self = Draft::new()`, which makes and moves a whole kilobyte where only the bytes that were kept, the mode and a count are set anew.
     #[tactic(auto, using(crate::proofs::Drafts::under_way_start))]
     pub(crate) fn clear(&mut self)
         ensures { Holds self.new [] }

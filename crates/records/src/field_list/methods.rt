@@ -22,7 +22,7 @@ impl FieldList {
     }
 
     /// Back to one empty field.
-    // No plainer as `*self = FieldList::new()`, which makes and moves a whole kilobyte where two lengths are set to 0.
+    // No plainer as `*self = FieldList::new()`, which makes and moves a whole kilobyte where only the bytes that were kept are cleared.
     pub(crate) fn clear(&mut self)
         ensures fields { (complete self.new ≡ []) × (current self.new ≡ []) }
         ensures room { (self.new.bytes.items ≡ []) × (self.new.ends.items ≡ []) }
